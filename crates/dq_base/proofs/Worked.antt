@@ -57,15 +57,15 @@ abbrev zone : List Predicate → List ℕ → List Measure → Query
 zone filters dims measures = record { source = 0; filters = filters; dims = dims; measures = measures; order = []; top = None }
 
 -- sum of amount and rows by region
-pub row_1 : answer (zone [] (0 ∷ []) (Sum 2 ∷ Rows ∷ [])) sales ≡ (cell.Null ∷ whole 4 ∷ whole 1 ∷ []) ∷ (east_cell ∷ whole 15 ∷ whole 2 ∷ []) ∷ (west_cell ∷ whole 7 ∷ whole 2 ∷ []) ∷ []
-row_1 = refl
+pub sums_and_rows_by_region : answer (zone [] (0 ∷ []) (Sum 2 ∷ Rows ∷ [])) sales ≡ (cell.Null ∷ whole 4 ∷ whole 1 ∷ []) ∷ (east_cell ∷ whole 15 ∷ whole 2 ∷ []) ∷ (west_cell ∷ whole 7 ∷ whole 2 ∷ []) ∷ []
+sums_and_rows_by_region = refl
 
 -- a grand total over no rows
-pub row_2 : answer (zone [] [] (Rows ∷ Sum 2 ∷ [])) [] ≡ (whole 0 ∷ cell.Null ∷ []) ∷ []
-row_2 = refl
+pub total_over_no_rows : answer (zone [] [] (Rows ∷ Sum 2 ∷ [])) [] ≡ (whole 0 ∷ cell.Null ∷ []) ∷ []
+total_over_no_rows = refl
 
-pub row_3 : answer (zone (record { column = 1; test = Among (int 1999 ∷ []) } ∷ []) [] (Rows ∷ Sum 2 ∷ [])) sales ≡ (whole 0 ∷ cell.Null ∷ []) ∷ []
-row_3 = refl
+pub total_over_no_kept_rows : answer (zone (record { column = 1; test = Among (int 1999 ∷ []) } ∷ []) [] (Rows ∷ Sum 2 ∷ [])) sales ≡ (whole 0 ∷ cell.Null ∷ []) ∷ []
+total_over_no_kept_rows = refl
 
 abbrev years : Query
 years = zone [] (0 ∷ []) (Distinct 1 ∷ [])
@@ -79,113 +79,113 @@ amounts = zone [] (0 ∷ []) (Distinct 2 ∷ [])
 abbrev overall : Query
 overall = zone [] [] (Distinct 1 ∷ Distinct 0 ∷ [])
 
-pub row_3_covered : covers (zone (record { column = 1; test = Between None (Some (pos 2021)) } ∷ []) (0 ∷ 1 ∷ []) (Rows ∷ Sum 2 ∷ [])) (zone (record { column = 1; test = Among (int 1999 ∷ []) } ∷ []) [] (Rows ∷ Sum 2 ∷ [])) ≡ true
-row_3_covered = refl
+pub years_cover_one_year : covers (zone (record { column = 1; test = Between None (Some (pos 2021)) } ∷ []) (0 ∷ 1 ∷ []) (Rows ∷ Sum 2 ∷ [])) (zone (record { column = 1; test = Among (int 1999 ∷ []) } ∷ []) [] (Rows ∷ Sum 2 ∷ [])) ≡ true
+years_cover_one_year = refl
 
-pub row_4_zone_1 : answer years sales ≡ (cell.Null ∷ whole 1 ∷ []) ∷ (east_cell ∷ whole 2 ∷ []) ∷ (west_cell ∷ whole 2 ∷ []) ∷ []
-row_4_zone_1 = refl
+pub different_years_by_region : answer years sales ≡ (cell.Null ∷ whole 1 ∷ []) ∷ (east_cell ∷ whole 2 ∷ []) ∷ (west_cell ∷ whole 2 ∷ []) ∷ []
+different_years_by_region = refl
 
-pub row_4_zone_3 : answer amounts sales ≡ (cell.Null ∷ whole 1 ∷ []) ∷ (east_cell ∷ whole 2 ∷ []) ∷ (west_cell ∷ whole 1 ∷ []) ∷ []
-row_4_zone_3 = refl
+pub different_amounts_by_region : answer amounts sales ≡ (cell.Null ∷ whole 1 ∷ []) ∷ (east_cell ∷ whole 2 ∷ []) ∷ (west_cell ∷ whole 1 ∷ []) ∷ []
+different_amounts_by_region = refl
 
-pub row_4_zone_4 : answer overall sales ≡ (whole 2 ∷ whole 2 ∷ []) ∷ []
-row_4_zone_4 = refl
+pub different_years_and_regions : answer overall sales ≡ (whole 2 ∷ whole 2 ∷ []) ∷ []
+different_years_and_regions = refl
 
-pub row_4_roles : roles (years ∷ cube ∷ amounts ∷ overall ∷ []) ≡ Local 1 ∷ Remote ∷ Remote ∷ Local 1 ∷ []
-row_4_roles = refl
+pub regions_are_local_to_the_cube : roles (years ∷ cube ∷ amounts ∷ overall ∷ []) ≡ Local 1 ∷ Remote ∷ Remote ∷ Local 1 ∷ []
+regions_are_local_to_the_cube = refl
 
-pub row_5_first : answer (zone [] (0 ∷ 1 ∷ []) (Avg 2 ∷ [])) sales ≡
+pub averages_by_region_and_year : answer (zone [] (0 ∷ 1 ∷ []) (Avg 2 ∷ [])) sales ≡
     (cell.Null ∷ whole 2021 ∷ cell.Ratio (record { sum = pos 4; others = 0 }) ∷ [])
     ∷ (east_cell ∷ whole 2020 ∷ cell.Ratio (record { sum = pos 10; others = 0 }) ∷ [])
     ∷ (east_cell ∷ whole 2021 ∷ cell.Ratio (record { sum = pos 5; others = 0 }) ∷ [])
     ∷ (west_cell ∷ whole 2020 ∷ cell.Ratio (record { sum = pos 7; others = 0 }) ∷ [])
     ∷ (west_cell ∷ whole 2021 ∷ cell.Null ∷ []) ∷ []
-row_5_first = refl
+averages_by_region_and_year = refl
 
 abbrev top_one : Measure → Query
 top_one m = record { source = 0; filters = []; dims = 0 ∷ []; measures = m ∷ []; order = record { place = 2; down = true } ∷ []; top = Some 1 }
 
-pub row_6 : answer (top_one Rows) sales ≡ (east_cell ∷ whole 2 ∷ []) ∷ []
-row_6 = refl
+pub ties_go_by_key : answer (top_one Rows) sales ≡ (east_cell ∷ whole 2 ∷ []) ∷ []
+ties_go_by_key = refl
 
-pub row_6_tie : answer (top_one (Max 1)) sales ≡ (cell.Null ∷ whole 2021 ∷ []) ∷ []
-row_6_tie = refl
+pub null_is_first_among_ties : answer (top_one (Max 1)) sales ≡ (cell.Null ∷ whole 2021 ∷ []) ∷ []
+null_is_first_among_ties = refl
 
 abbrev big : List Value
 big = value.Null ∷ value.Null ∷ int 9223372036854775807 ∷ []
 
-pub row_19 : answer (zone [] [] (Sum 2 ∷ Avg 2 ∷ [])) (big ∷ big ∷ []) ≡ (whole 18446744073709551614 ∷ cell.Ratio (record { sum = pos 18446744073709551614; others = 1 }) ∷ []) ∷ []
-row_19 = refl
+pub sums_beyond_64_bits : answer (zone [] [] (Sum 2 ∷ Avg 2 ∷ [])) (big ∷ big ∷ []) ≡ (whole 18446744073709551614 ∷ cell.Ratio (record { sum = pos 18446744073709551614; others = 1 }) ∷ []) ∷ []
+sums_beyond_64_bits = refl
 
-pub row_21_source : invalid_by (heading ∷ []) (record { source = 1; filters = []; dims = []; measures = Rows ∷ []; order = []; top = None }) ≡ Some invalid.Source
-row_21_source = refl
+pub no_such_source : invalid_by (heading ∷ []) (record { source = 1; filters = []; dims = []; measures = Rows ∷ []; order = []; top = None }) ≡ Some invalid.Source
+no_such_source = refl
 
-pub row_21_column : invalid_by (heading ∷ []) (zone [] (3 ∷ []) []) ≡ Some invalid.Column
-row_21_column = refl
+pub no_such_column : invalid_by (heading ∷ []) (zone [] (3 ∷ []) []) ≡ Some invalid.Column
+no_such_column = refl
 
-pub row_21_repeated : invalid_by (heading ∷ []) (zone [] (0 ∷ 0 ∷ []) []) ≡ Some invalid.RepeatedDim
-row_21_repeated = refl
+pub repeated_dimension : invalid_by (heading ∷ []) (zone [] (0 ∷ 0 ∷ []) []) ≡ Some invalid.RepeatedDim
+repeated_dimension = refl
 
-pub row_21_sum : invalid_by (heading ∷ []) (zone [] [] (Sum 0 ∷ [])) ≡ Some invalid.WrongSort
-row_21_sum = refl
+pub sum_of_a_text : invalid_by (heading ∷ []) (zone [] [] (Sum 0 ∷ [])) ≡ Some invalid.WrongSort
+sum_of_a_text = refl
 
-pub row_21_among : invalid_by (heading ∷ []) (zone (record { column = 1; test = Among (value.Word (120 ∷ []) ∷ []) } ∷ []) [] (Rows ∷ [])) ≡ Some invalid.WrongSort
-row_21_among = refl
+pub text_among_wholes : invalid_by (heading ∷ []) (zone (record { column = 1; test = Among (value.Word (120 ∷ []) ∷ []) } ∷ []) [] (Rows ∷ [])) ≡ Some invalid.WrongSort
+text_among_wholes = refl
 
-pub row_21_nothing : invalid_by (heading ∷ []) (zone [] [] []) ≡ Some invalid.NothingShown
-row_21_nothing = refl
+pub nothing_shown : invalid_by (heading ∷ []) (zone [] [] []) ≡ Some invalid.NothingShown
+nothing_shown = refl
 
-abbrev p22 : Query
-p22 = zone [] (0 ∷ 1 ∷ []) (Rows ∷ Sum 2 ∷ [])
+abbrev held : Query
+held = zone [] (0 ∷ 1 ∷ []) (Rows ∷ Sum 2 ∷ [])
 
-abbrev q22 : List Measure → Query
-q22 ms = zone [] (0 ∷ []) ms
+abbrev asked : List Measure → Query
+asked ms = zone [] (0 ∷ []) ms
 
-pub row_22_sum : covers p22 (q22 (Sum 2 ∷ [])) ≡ true
-row_22_sum = refl
+pub sum_is_covered : covers held (asked (Sum 2 ∷ [])) ≡ true
+sum_is_covered = refl
 
-pub row_22_avg : covers p22 (q22 (Avg 2 ∷ [])) ≡ false
-row_22_avg = refl
+pub average_needs_a_count : covers held (asked (Avg 2 ∷ [])) ≡ false
+average_needs_a_count = refl
 
-pub row_22_count : covers p22 (q22 (Count 1 ∷ [])) ≡ true
-row_22_count = refl
+pub count_of_a_dimension : covers held (asked (Count 1 ∷ [])) ≡ true
+count_of_a_dimension = refl
 
-pub row_22_distinct : covers p22 (q22 (Distinct 0 ∷ [])) ≡ true
-row_22_distinct = refl
+pub different_dimensions : covers held (asked (Distinct 0 ∷ [])) ≡ true
+different_dimensions = refl
 
-pub row_22_filter : covers p22 (zone (record { column = 2; test = Between (Some (pos 1)) (Some (pos 9)) } ∷ []) (0 ∷ []) (Rows ∷ [])) ≡ false
-row_22_filter = refl
+pub filter_off_the_dimensions : covers held (zone (record { column = 2; test = Between (Some (pos 1)) (Some (pos 9)) } ∷ []) (0 ∷ []) (Rows ∷ [])) ≡ false
+filter_off_the_dimensions = refl
 
-abbrev p22_top : Query
-p22_top = record p22 { top = Some 1 }
+abbrev held_top : Query
+held_top = record held { top = Some 1 }
 
-pub row_22_top : covers p22_top p22 ≡ false
-row_22_top = refl
+pub top_covers_no_other : covers held_top held ≡ false
+top_covers_no_other = refl
 
-pub row_22_top_itself : covers p22_top p22_top ≡ true
-row_22_top_itself = refl
+pub top_covers_itself : covers held_top held_top ≡ true
+top_covers_itself = refl
 
-pub row_23 : canonical (zone (record { column = 1; test = Between (Some (pos 2021)) (Some (pos 2020)) } ∷ record { column = 0; test = Among (west ∷ east ∷ west ∷ []) } ∷ []) [] (Rows ∷ []))
+pub canonical_form : canonical (zone (record { column = 1; test = Between (Some (pos 2021)) (Some (pos 2020)) } ∷ record { column = 0; test = Among (west ∷ east ∷ west ∷ []) } ∷ []) [] (Rows ∷ []))
     ≡ zone (record { column = 0; test = Among (east ∷ west ∷ []) } ∷ record { column = 1; test = Among [] } ∷ []) [] (Rows ∷ [])
-row_23 = refl
+canonical_form = refl
 
 abbrev amount_by_region : Measure → Query
 amount_by_region m = zone [] (0 ∷ []) (m ∷ [])
 
-pub row_8_groups : groups (amount_by_region (Sum 2) ∷ amount_by_region (Max 2) ∷ []) ≡ record { key = zone [] (0 ∷ []) (Sum 2 ∷ Max 2 ∷ []); members = 0 ∷ 1 ∷ [] } ∷ []
-row_8_groups = refl
+pub one_group_of_two : groups (amount_by_region (Sum 2) ∷ amount_by_region (Max 2) ∷ []) ≡ record { key = zone [] (0 ∷ []) (Sum 2 ∷ Max 2 ∷ []); members = 0 ∷ 1 ∷ [] } ∷ []
+one_group_of_two = refl
 
-pub row_8_maxima : answer (amount_by_region (Max 2)) sales ≡ (cell.Null ∷ whole 4 ∷ []) ∷ (east_cell ∷ whole 10 ∷ []) ∷ (west_cell ∷ whole 7 ∷ []) ∷ []
-row_8_maxima = refl
+pub maxima_by_region : answer (amount_by_region (Max 2)) sales ≡ (cell.Null ∷ whole 4 ∷ []) ∷ (east_cell ∷ whole 10 ∷ []) ∷ (west_cell ∷ whole 7 ∷ []) ∷ []
+maxima_by_region = refl
 
-pub row_21_order : invalid_by (heading ∷ []) (record { source = 0; filters = []; dims = 0 ∷ []; measures = Rows ∷ []; order = record { place = 3; down = true } ∷ []; top = None }) ≡ Some invalid.OrderKey
-row_21_order = refl
+pub order_place_missing : invalid_by (heading ∷ []) (record { source = 0; filters = []; dims = 0 ∷ []; measures = Rows ∷ []; order = record { place = 3; down = true } ∷ []; top = None }) ≡ Some invalid.OrderKey
+order_place_missing = refl
 
-pub row_21_long : invalid_by (heading ∷ []) (zone (replicate 17 (record { column = 1; test = Between None None })) [] (Rows ∷ [])) ≡ Some invalid.TooLong
-row_21_long = refl
+pub seventeen_predicates : invalid_by (heading ∷ []) (zone (replicate 17 (record { column = 1; test = Between None None })) [] (Rows ∷ [])) ≡ Some invalid.TooLong
+seventeen_predicates = refl
 
-pub row_21_ok : invalid_by (heading ∷ []) (zone (replicate 16 (record { column = 1; test = Between None None })) [] (Rows ∷ [])) ≡ None
-row_21_ok = refl
+pub sixteen_predicates : invalid_by (heading ∷ []) (zone (replicate 16 (record { column = 1; test = Between None None })) [] (Rows ∷ [])) ≡ None
+sixteen_predicates = refl
 
 -- each of two alike covers the other: the first stands, the second is local to it
 pub alike_roles : roles (cube ∷ cube ∷ []) ≡ Remote ∷ Local 0 ∷ []

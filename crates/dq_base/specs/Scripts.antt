@@ -1,0 +1,70 @@
+-- What a script says, and how large it may be.
+use Rattle.std.specs.Prelude.{◌≡◌, ℕ, ◌-◌, ◌<◌, ◌≤◌, Bool, true, ◌&&◌, nat_lt, nat_le, nat_eq, List, [], ◌∷◌, length, sum_by, slice_get, Option, Some, None, option_and_then, if◌then◌else◌}
+use Rattle.std.specs.List.{list_all, flat_map}
+use Rattle.dq_base.specs.Headings.{Heading}
+use Rattle.dq_base.specs.Limits.{most_extracts, most_columns, most_lanes, most_steps, most_zones, most_all_zones, most_turns, most_faults, most_kept}
+use Rattle.dq_base.specs.declared.script.Step.{Step}
+use Rattle.dq_base.specs.declared.script.Step.TheVariants.{Publish, Batch}
+use Rattle.dq_base.specs.declared.script.Fails.{Fails}
+use Rattle.dq_base.specs.declared.script.Script.{Script}
+
+-- the item of that number, from 1
+abbrev pub numbered : {X : Type 0} → List X → ℕ → Option X
+numbered items number = if nat_eq number 0 then None else slice_get items (number - 1)
+
+-- the step of a lane, both numbered from 1
+abbrev pub step_of : List (List Step) → ℕ → ℕ → Option Step
+step_of lanes lane step = option_and_then (λ steps. numbered steps step) (numbered lanes lane)
+
+-- the source that a step publishes, if it does
+abbrev pub source_in : Step → List ℕ
+source_in (Publish source how file) = source ∷ []
+source_in (Batch zones) = []
+
+-- the sources of the publish steps, in order of lanes and steps
+abbrev pub sources_of : List (List Step) → List ℕ
+sources_of lanes = flat_map (λ steps. flat_map source_in steps) lanes
+
+abbrev pub zones_in : Step → ℕ
+zones_in (Publish source how file) = 0
+zones_in (Batch zones) = length zones
+
+abbrev pub zones_count : List (List Step) → ℕ
+zones_count lanes = sum_by (λ steps. sum_by zones_in steps) lanes
+
+-- a publication of one of so many extracts, or a batch that isn't too large
+abbrev pub step_fits : ℕ → Step → Bool
+step_fits extracts (Publish source how file) = nat_lt source extracts
+step_fits extracts (Batch zones) = nat_le (length zones) most_zones
+
+abbrev pub lane_fits : ℕ → List Step → Bool
+lane_fits extracts steps = nat_le (length steps) most_steps && list_all (step_fits extracts) steps
+
+abbrev pub heading_fits : Heading → Bool
+heading_fits heading = nat_lt 0 (length heading.names) && nat_le (length heading.names) most_columns
+
+abbrev pub fails_fit : Fails → Bool
+fails_fit fails = nat_le (length fails.dials) most_faults && nat_le (length fails.links) most_faults
+
+-- a lane's number, of so many
+abbrev pub is_lane : ℕ → ℕ → Bool
+is_lane lanes lane = nat_lt 0 lane && nat_le lane lanes
+
+pub record IsCapacity (capacity : ℕ) : Type 0 where
+  pub some : 1 ≤ capacity
+  pub within : capacity ≤ most_kept
+
+-- a script within the limits, whose numbers are in range
+pub record IsScript (script : Script) : Type 0 where
+  pub named : length script.names ≡ length script.schemas
+  pub extracts : length script.schemas ≤ most_extracts
+  pub columns : list_all heading_fits script.schemas ≡ true
+  pub lanes : length script.lanes ≤ most_lanes
+  pub steps : list_all (lane_fits (length script.schemas)) script.lanes ≡ true
+  pub zones : zones_count script.lanes ≤ most_all_zones
+  pub turns : length script.schedule ≤ most_turns
+  pub turns_of_lanes : list_all (is_lane (length script.lanes)) script.schedule ≡ true
+  pub literal : IsCapacity script.literal
+  pub clever : IsCapacity script.clever
+  pub fails : length script.fails ≡ length script.lanes
+  pub faults : list_all fails_fit script.fails ≡ true
