@@ -1,0 +1,10 @@
+//! The journal of a run, and the results of its steps and zones.
+#![tactic(auto)]
+
+mod entry;
+mod journal;
+mod result;
+
+pub use entry::{Cause, Entry, Meets, Met};
+pub use journal::Journal;
+pub use result::{LaneResults, LaneResultsList, StepResult, ZoneResult, ZoneResults};
