@@ -192,9 +192,13 @@ abbrev pub lanes_text : ℕ → List (List StepResult) → Bytes
 lanes_text number [] = []
 lanes_text number (rs ∷ lanes) = lane_text number rs ++ lanes_text (number + 1) lanes
 
+-- a line of words and a number
+abbrev pub counted_line : Bytes → ℕ → Bytes
+counted_line words number = words ++ decimal number ++ 10 ∷ []
+
 -- how many lanes and entries there are
 abbrev pub head_text : ℕ → ℕ → Bytes
-head_text lanes entries = codes "report 1\nlanes " ++ decimal lanes ++ codes "\nentries " ++ decimal entries ++ 10 ∷ []
+head_text lanes entries = codes "report 1\n" ++ counted_line (codes "lanes ") lanes ++ counted_line (codes "entries ") entries
 
 -- the report on a journal and the lanes' results
 abbrev pub report_text : List Entry → List (List StepResult) → Bytes

@@ -1,0 +1,6 @@
+pub mod Causes
+pub mod Fails
+pub mod Files
+pub mod InMemory
+pub mod Reads
+pub mod Writes
