@@ -6,6 +6,7 @@ use crate::memory::Memory;
 use crate::predicate::{Predicate, Test};
 use crate::query::{Measure, OrderKey, Query};
 use crate::ratio::Ratio;
+use crate::schema::{Schema, Sort};
 use crate::value::Value;
 use std::alloc::Global;
 
@@ -106,5 +107,19 @@ impl Duplicate for Cell {
             Cell::Word(text) => Ok(Cell::Word(Text::copy_of(alloc, text.bytes())?)),
             Cell::Ratio(ratio) => Ok(Cell::Ratio(ratio.duplicate(alloc)?)),
         }
+    }
+}
+
+impl Duplicate for Sort {
+    fn duplicate(&self, _alloc: Global) -> Result<Sort, Memory> {
+        Ok(*self)
+    }
+}
+
+impl Duplicate for Schema {
+    fn duplicate(&self, alloc: Global) -> Result<Schema, Memory> {
+        let names = self.names().duplicate(alloc)?;
+        let sorts = self.sorts().duplicate(alloc)?;
+        Ok(Schema::new(names, sorts))
     }
 }

@@ -89,13 +89,7 @@ fn put_counts(text: &mut Text, ran: bool, runs: u64, calls: u64) -> Result<(), M
     put_labelled(text, b" calls ", calls)
 }
 
-fn put_lost(
-    text: &mut Text,
-    dialled: bool,
-    ran: bool,
-    runs: u64,
-    calls: u64,
-) -> Result<(), Memory>
+fn put_lost(text: &mut Text, dialled: bool, ran: bool, runs: u64, calls: u64) -> Result<(), Memory>
     ensures { OnOk result (text.new ≡ text.old ++ form.lost_text dialled ran runs calls) }
 {
     if dialled {
@@ -124,13 +118,7 @@ fn put_admit(text: &mut Text, lane: u32, step: u32, meets: &[Met]) -> Result<(),
     put_meets(text, meets)
 }
 
-fn put_linked(
-    text: &mut Text,
-    word: &[u8],
-    lane: u32,
-    flight: u64,
-    link: u64,
-) -> Result<(), Memory>
+fn put_linked(text: &mut Text, word: &[u8], lane: u32, flight: u64, link: u64) -> Result<(), Memory>
     ensures { OnOk result (text.new ≡ text.old ++ form.linked_text word.now lane flight link) }
 {
     text.append(word)?;

@@ -11,3 +11,6 @@ mod texts;
 mod writing;
 
 pub use writing::{WriteFault, write};
+
+#[cfg(test)]
+mod tests;

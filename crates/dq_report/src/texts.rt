@@ -47,7 +47,11 @@ fn hex_digit(number: u8) -> u8
     requires { number < 16 }
     ensures { result ≡ form.hex_digit number }
 {
-    if number < 10 { 48 + number } else { 87 + number }
+    if number < 10 {
+        48 + number
+    } else {
+        87 + number
+    }
 }
 
 fn put_spelled_byte(text: &mut Text, byte: u8) -> Result<(), Memory>

@@ -50,11 +50,7 @@ fn put_head(text: &mut Text, lanes: u64, entries: u64) -> Result<(), Memory>
 }
 
 /// The report's text.
-fn text_of(
-    alloc: Global,
-    journal: &Journal,
-    results: &LaneResultsList,
-) -> Result<Text, Memory>
+fn text_of(alloc: Global, journal: &Journal, results: &LaneResultsList) -> Result<Text, Memory>
     ensures { IfOk result (λ text. text ≡ report_text journal.now.entries results.now) }
 {
     let mut text = Text::new(alloc);

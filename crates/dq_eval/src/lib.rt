@@ -1,0 +1,9 @@
+//! Evaluates a query over a version of an extract.
+//!
+//! The layer above may rely on this: `evaluate` gives the answer of the query over the extract's rows, whatever segments
+//! they stand in, and fails for want of memory only.
+#![tactic(auto)]
+
+mod evaluation;
+
+pub use evaluation::evaluate;

@@ -1,0 +1,7 @@
+pub mod Counts
+pub mod Extracts
+pub mod Fits
+pub mod Leaves
+pub mod Marks
+pub mod Numbers
+pub mod Walk

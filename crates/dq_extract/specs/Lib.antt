@@ -1,0 +1,5 @@
+pub mod Left
+pub mod Loads
+pub mod Rows
+pub mod Segments
+pub mod Wholes

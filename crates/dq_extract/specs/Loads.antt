@@ -1,0 +1,43 @@
+-- What was loaded for a script.
+use Rattle.std.specs.Prelude.{◌≡◌, ⊤, ℕ, ◌+◌, ◌-◌, ◌≤◌, List, [], ◌∷◌, length, take, sum_by, slice_get, All, Option, Some, None, unwrap_or}
+use Rattle.std.specs.List.{flat_map}
+use Rattle.dq_base.specs.Headings.{Heading}
+use Rattle.dq_base.specs.Limits.{cell_room}
+use Rattle.dq_base.specs.Scripts.{IsScript, numbered, step_of, source_in, sources_of}
+use Rattle.dq_base.specs.Versions.{Version, IsVersion, cells_of}
+use Rattle.dq_base.specs.declared.script.Script.{Script}
+use Rattle.dq_base.specs.declared.script.Step.{Step}
+use Rattle.dq_base.specs.declared.script.Step.TheVariants.{Publish, Batch}
+
+-- a script, and a segment for each of its publish steps, in order of lanes and steps
+pub record LoadedFiles : Type 0 where
+  pub script : Script
+  pub segments : List Version
+
+-- as many segments as sources, each under the heading at its source
+abbrev pub AreOf : List Heading → List ℕ → List Version → Type 0
+AreOf headings [] [] = ⊤
+AreOf headings [] (v ∷ segments) = ⊥
+AreOf headings (source ∷ sources) [] = ⊥
+AreOf headings (source ∷ sources) (v ∷ segments) = (slice_get headings source ≡ Some v.heading) × AreOf headings sources segments
+
+pub record IsLoaded (l : LoadedFiles) : Type 0 where
+  pub script : IsScript l.script
+  pub fit : AreOf l.script.schemas (sources_of l.script.lanes) l.segments
+  pub cells : sum_by cells_of l.segments ≤ cell_room
+  pub versions : All IsVersion l.segments
+
+-- how many publish steps stand before a step, in order of lanes and steps
+abbrev pub before_step : List (List Step) → ℕ → ℕ → ℕ
+before_step lanes lane step =
+    length (sources_of (take (lane - 1) lanes)) + length (flat_map source_in (take (step - 1) (unwrap_or (numbered lanes lane) [])))
+
+-- the segment at that place, for a publish step alone
+abbrev pub published_at : List Version → ℕ → Option Step → Option Version
+published_at segments place None = None
+published_at segments place (Some (Publish source how file)) = slice_get segments place
+published_at segments place (Some (Batch zones)) = None
+
+-- the segment of a publish step; lanes and steps count from 1
+abbrev pub segment_of : LoadedFiles → ℕ → ℕ → Option Version
+segment_of l lane step = published_at l.segments (before_step l.script.lanes lane step) (step_of l.script.lanes lane step)

@@ -1,0 +1,3 @@
+pub mod Folding
+pub mod Sums
+pub mod Tallies

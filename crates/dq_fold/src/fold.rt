@@ -1,0 +1,140 @@
+ghost use Rattle.std.specs.Prelude.{◌≡◌, ◌^◌, ◌<◌, ◌≤◌, ◌++◌, ◌∷◌, [], true, false, List as ListOf, IfOk, OnErr, OnOk, map};
+ghost use Rattle.dq_base.specs.Answers.{answer, first_rows};
+ghost use Rattle.dq_base.specs.declared.value.Value.{Value as ValueOf};
+ghost use Rattle.dq_fold.specs.Folding.{AllSmall, IsGroups, folded, group_cells, groups_of};
+
+use crate::groups::{Groups, add_row, cells_of, fill, no_tallies};
+use crate::keeps::is_kept;
+use crate::order::sort_rows;
+use dq_base::{Canon, Cells, List, Memory, Query, Table, Value, Values};
+use std::alloc::Global;
+use std::collections::BTreeMap;
+use std::marker::Model;
+
+/// The groups of the rows that were added, for one query. Contracts see it as the query, the groups by key, how many rows
+/// were added, and whether an addition failed.
+#[derive(Drop)]
+pub struct Fold {
+    alloc: Global,
+    key: Canon,
+    buffer: Values,
+    groups: Groups,
+    rows: u64,
+    spent: bool,
+}
+
+impl Model for Fold {
+    ghost use Rattle.dq_fold.specs.Folding.{Folded, IsFolding};
+
+    ghost Value = { Folded };
+
+    ghost view = { λ f. record { key = f.key; groups = f.groups.entries; rows = f.rows; spent = f.spent } };
+
+    ghost invariant = { λ f. IsFolding (record { key = f.key; groups = f.groups.entries; rows = f.rows; spent = f.spent }) };
+}
+
+impl Fold {
+    /// The fold of no rows.
+    pub fn new(alloc: Global, key: &Canon) -> Result<Fold, Memory>
+        ensures { IfOk result (λ fold. fold ≡ folded key.now []) }
+    {
+        let groups = first_groups(alloc, key.query())?;
+        let key = key.duplicate(alloc)?;
+        Ok(Fold {
+            alloc,
+            key,
+            buffer: List::new(alloc),
+            groups,
+            rows: 0,
+            spent: false,
+        })
+    }
+
+    /// Adds a row. A column that it lacks reads as null. After an `Err` the fold is spent.
+    ///
+    /// A row that isn't kept costs its predicates only. A row of a known group costs a look-up among the groups.
+    pub fn add(&mut self, values: &[Value]) -> Result<(), Memory>
+        requires fresh { self.old.spent ≡ false }
+        requires room { self.old.rows < 2 ^ 23 }
+        ensures ok { OnOk result ((rows : ListOf (ListOf ValueOf)) → self.old ≡ folded self.old.key rows → self.new ≡ folded self.old.key (rows ++ values.now ∷ [])) }
+        ensures err { OnErr result (self.new.spent ≡ true) }
+    {
+        self.spent = true;
+        self.rows += 1;
+        add_to_groups(
+            self.alloc,
+            self.key.query(),
+            &mut self.buffer,
+            &mut self.groups,
+            values,
+        )?;
+        self.spent = false;
+        Ok(())
+    }
+
+    /// The answer over the rows that were added.
+    pub fn finish(self) -> Result<Table, Memory>
+        requires { self.spent ≡ false }
+        ensures { IfOk result (λ table. (rows : ListOf (ListOf ValueOf)) → self ≡ folded self.key rows → table ≡ answer self.key rows) }
+    {
+        let q = self.key.query();
+        let mut rows = rows_of(self.alloc, &self.groups)?;
+        sort_rows(q, &mut rows)?;
+        Ok(first_of(List::from_vec(rows), q.top))
+    }
+}
+
+/// The groups over no rows: one without dimensions, and else none.
+fn first_groups(alloc: Global, q: &Query) -> Result<Groups, Memory>
+    ensures { IfOk result (λ groups. groups.entries ≡ groups_of q.now []) }
+{
+    let mut groups = BTreeMap::new(alloc);
+    if q.dims.len() != 0 {
+        return Ok(groups);
+    }
+    let tallies = no_tallies(alloc, q.measures.as_slice())?;
+    groups.insert(List::new(alloc), tallies)?;
+    Ok(groups)
+}
+
+/// Adds a row to the group of its key, if the query keeps it.
+fn add_to_groups(
+    alloc: Global,
+    q: &Query,
+    buffer: &mut Values,
+    groups: &mut Groups,
+    row: &[Value],
+) -> Result<(), Memory>
+    requires { IsGroups q.now groups.old.entries }
+    ensures { OnOk result ((rows : ListOf (ListOf ValueOf)) → groups.old.entries ≡ groups_of q.now rows → groups.new.entries ≡ groups_of q.now (rows ++ row.now ∷ [])) }
+{
+    if !is_kept(q, row) {
+        return Ok(());
+    }
+    fill(alloc, buffer, q.dims.as_slice(), row)?;
+    add_row(alloc, groups, buffer, q.measures.as_slice(), row)?;
+    Ok(())
+}
+
+/// The answer's rows, in the order of keys.
+fn rows_of(alloc: Global, groups: &Groups) -> Result<Vec<Cells>, Memory>
+    requires { AllSmall groups.now.entries }
+    ensures { IfOk result (λ rows. rows.items ≡ map group_cells groups.now.entries) }
+{
+    let mut rows = Vec::new(alloc);
+    for (key, tallies) in groups.iter() {
+        rows.push(cells_of(alloc, key, tallies)?)?;
+    }
+    Ok(rows)
+}
+
+/// The first rows, or all without a top.
+fn first_of(table: Table, top: Option<u32>) -> Table
+    ensures { result ≡ first_rows top table }
+{
+    let mut first = table;
+    if let Some(count) = top {
+        first.truncate(count as usize);
+    }
+    first
+}

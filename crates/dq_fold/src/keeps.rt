@@ -1,0 +1,88 @@
+ghost use Rattle.std.specs.Prelude.{◌≡◌};
+ghost use Rattle.std.specs.Option.{option_copied};
+ghost use Rattle.dq_base.specs.Filters.{from_low, holds, keeps, lies_between, to_high, value_at};
+ghost use Rattle.dq_base.specs.Orders.{value_cmp};
+ghost use Rattle.dq_base.specs.Sets.{has};
+ghost use Rattle.dq_fold.specs.Tallies.{filled};
+
+use dq_base::{Predicate, Query, Test, Value, Values, compare_values};
+
+/// Whether a list has the like of a value.
+fn has_like(list: &Values, v: &Value) -> bool
+    ensures { result ≡ has value_cmp list.now v.now }
+{
+    list.as_slice()
+        .iter()
+        .any(|other| compare_values(v, other).is_eq())
+}
+
+/// Whether a number isn't below the low bound, if there is one.
+fn is_from(low: Option<i64>, n: i64) -> bool
+    ensures { result ≡ from_low low n }
+{
+    match low {
+        None => true,
+        Some(low) => low <= n,
+    }
+}
+
+/// Whether a number isn't above the high bound, if there is one.
+fn is_to(high: Option<i64>, n: i64) -> bool
+    ensures { result ≡ to_high high n }
+{
+    match high {
+        None => true,
+        Some(high) => n <= high,
+    }
+}
+
+/// Whether a value is a whole number within the bounds.
+fn is_between(low: Option<i64>, high: Option<i64>, v: &Value) -> bool
+    ensures { result ≡ lies_between low high v.now }
+{
+    match v {
+        Value::Null => false,
+        Value::Int(n) => is_from(low, *n) && is_to(high, *n),
+        Value::Word(_) => false,
+    }
+}
+
+/// Whether a test holds of a value.
+fn test_holds(test: &Test, v: &Value) -> bool
+    ensures { result ≡ holds test.now v.now }
+{
+    match test {
+        Test::Among(list) => has_like(list, v),
+        Test::Except(list) => !has_like(list, v),
+        Test::Between(low, high) => is_between(*low, *high, v),
+    }
+}
+
+/// Whether a predicate holds of a row.
+fn predicate_holds(p: &Predicate, row: &[Value]) -> bool
+    ensures { result ≡ holds p.now.test (value_at row.now p.now.column) }
+{
+    match row.get(p.column as usize) {
+        Some(v) => test_holds(&p.test, v),
+        None => test_holds(&p.test, &Value::Null),
+    }
+}
+
+/// Whether a query keeps a row. It takes no memory.
+pub fn is_kept(q: &Query, row: &[Value]) -> bool
+    ensures { result ≡ keeps q.now row.now }
+{
+    q.filters.as_slice().iter().all(|p| predicate_holds(p, row))
+}
+
+/// The row's value in a column, if it is there and isn't null.
+pub fn filled_at(row: &[Value], column: u32) -> Option<&Value>
+    ensures { option_copied result ≡ filled (value_at row.now column) }
+{
+    let v = row.get(column as usize)?;
+    match v {
+        Value::Null => None,
+        Value::Int(_) => Some(v),
+        Value::Word(_) => Some(v),
+    }
+}

@@ -1,0 +1,4 @@
+pub mod Again
+pub mod Inserted
+pub mod Repeats
+pub mod SameAnswer

@@ -1,0 +1,10 @@
+pub mod Among
+pub mod Chains
+pub mod Columned
+pub mod Counted
+pub mod Fitting
+pub mod Json
+pub mod Kept
+pub mod Measured
+pub mod Placed
+pub mod Sizes

@@ -1,0 +1,168 @@
+-- What the top call answers, by what it tells.
+use Rattle.std.specs.Prelude.{◌≡◌, ⊤, ℕ, Bool, true, false, ◌||◌, List, [], ◌∷◌, ◌++◌, Option, Some, None, IfSome, codes, option_map, if◌then◌else◌, Result, Ok, Err}
+use Rattle.std.specs.Arc.{arc_value}
+use Rattle.std.specs.List.{list_any}
+use Rattle.std.specs.declared.alloc.Global.{Global}
+use Rattle.std.specs.declared.sync.Arc.{Arc}
+use Rattle.dq_outside.specs.Causes.{Rose}
+use Rattle.dq_outside.specs.Reads.{Files}
+use Rattle.dq_outside.specs.Writes.{appended, WritesPrefix}
+use Rattle.dq_extract.specs.Loads.{LoadedFiles}
+use Rattle.dq_journal.specs.Right.{IsRight}
+use Rattle.dq_journal.specs.declared.entry.Entry.{Entry}
+use Rattle.dq_journal.specs.declared.result.ZoneResult.{ZoneResult}
+use Rattle.dq_journal.specs.declared.result.ZoneResult.TheVariants as zone
+use Rattle.dq_journal.specs.declared.result.StepResult.{StepResult}
+use Rattle.dq_journal.specs.declared.result.StepResult.TheVariants.{Published, Unpublished, Admitted, Unadmitted}
+use Rattle.dq_report.specs.declared.writing.WriteFault.{WriteFault}
+use Rattle.dq_report.specs.declared.writing.WriteFault.TheVariants as write
+use Rattle.dq_top.specs.Loading.{Load, Loads, Missing, Unbuilt, loaded_of, names_read, IsAmong}
+use Rattle.dq_top.specs.declared.fault.Fault.{Fault}
+use Rattle.dq_top.specs.declared.fault.Fault.TheVariants as fault
+
+abbrev pub fault_status : Fault → ℕ
+fault_status fault.Usage = 2
+fault_status (fault.Read name) = 3
+fault_status (fault.Unbuilt name) = 8
+fault_status fault.Write = 5
+fault_status fault.Memory = 6
+
+-- the line that tells a fault
+abbrev pub fault_line : Fault → List ℕ
+fault_line fault.Usage = codes "dashboards: usage"
+fault_line (fault.Read name) = codes "dashboards: cannot read " ++ name
+fault_line (fault.Unbuilt name) = codes "dashboards: " ++ name ++ codes ": not built"
+fault_line fault.Write = codes "dashboards: cannot write"
+fault_line fault.Memory = codes "dashboards: out of memory"
+
+-- what was refused
+
+-- refused for its query or for the back end
+abbrev pub is_refused : ZoneResult → Bool
+is_refused (zone.Rows table) = false
+is_refused (zone.Invalid reason) = true
+is_refused zone.BackEnd = true
+is_refused zone.Memory = false
+
+abbrev pub is_wanting : ZoneResult → Bool
+is_wanting (zone.Rows table) = false
+is_wanting (zone.Invalid reason) = false
+is_wanting zone.BackEnd = false
+is_wanting zone.Memory = true
+
+abbrev pub step_refused : StepResult → Bool
+step_refused (Published place) = false
+step_refused Unpublished = false
+step_refused (Admitted place zones) = list_any is_refused zones
+step_refused (Unadmitted zones) = list_any is_refused zones
+
+abbrev pub step_wanting : StepResult → Bool
+step_wanting (Published place) = false
+step_wanting Unpublished = true
+step_wanting (Admitted place zones) = list_any is_wanting zones
+step_wanting (Unadmitted zones) = true
+
+-- some zone was refused, but not for memory
+abbrev pub any_refused : List (List StepResult) → Bool
+any_refused results = list_any (λ steps. list_any step_refused steps) results
+
+-- some zone, refresh or batch was refused for memory
+abbrev pub any_wanting : List (List StepResult) → Bool
+any_wanting results = list_any (λ steps. list_any step_wanting steps) results
+
+-- statuses
+
+-- 0, or 1 where some zone was refused; else that of what is told
+abbrev pub status_of : Option Fault → List (List StepResult) → ℕ
+status_of None results = if any_refused results then 1 else 0
+status_of (Some f) results = fault_status f
+
+-- wholeness
+
+-- what was loaded, behind its owner
+abbrev pub loaded_files : Option (Arc LoadedFiles Global) → Option LoadedFiles
+loaded_files loaded = option_map arc_value loaded
+
+-- there is something loaded where nothing, or a write, is told; nothing where a run didn't begin
+abbrev pub IsWhole : Option Fault → Option LoadedFiles → Type 0
+IsWhole None loaded = (l : LoadedFiles) × (loaded ≡ Some l)
+IsWhole (Some fault.Usage) loaded = loaded ≡ None
+IsWhole (Some (fault.Read name)) loaded = loaded ≡ None
+IsWhole (Some (fault.Unbuilt name)) loaded = loaded ≡ None
+IsWhole (Some fault.Write) loaded = (l : LoadedFiles) × (loaded ≡ Some l)
+IsWhole (Some fault.Memory) loaded = ⊤
+
+-- where something was loaded, the results are right for it and the journal; else there are none
+abbrev pub AreRight : Option LoadedFiles → List Entry → List (List StepResult) → Type 0
+AreRight None journal results = (journal ≡ []) × (results ≡ [])
+AreRight (Some l) journal results = IsRight l journal results
+
+-- what is written
+
+-- after want of memory: nothing where nothing was loaded, else a prefix
+abbrev pub WritesSome : Option (List ℕ) → Option (List ℕ) → List ℕ → Option LoadedFiles → Type 0
+WritesSome before now report None = now ≡ before
+WritesSome before now report (Some l) = WritesPrefix before now report
+
+-- what a told sink holds
+abbrev pub Writes : Option (List ℕ) → Option (List ℕ) → List ℕ → Option LoadedFiles → Option Fault → Type 0
+Writes before now report loaded None = now ≡ appended before report
+Writes before now report loaded (Some fault.Usage) = now ≡ before
+Writes before now report loaded (Some (fault.Read name)) = now ≡ before
+Writes before now report loaded (Some (fault.Unbuilt name)) = now ≡ before
+Writes before now report loaded (Some fault.Write) = WritesPrefix before now report
+Writes before now report loaded (Some fault.Memory) = WritesSome before now report loaded
+
+-- answers and their causes
+
+-- where the files are told, the answer is that of loading them, or a name that is read, or want of memory
+abbrev pub AnswersFiles : Files → List ℕ → Option Fault → Type 0
+AnswersFiles files name None = (l : LoadedFiles) × (loaded_of files name ≡ Loads l)
+AnswersFiles files name (Some fault.Usage) = ⊥
+AnswersFiles files name (Some (fault.Read n)) = IsAmong n (names_read files name)
+AnswersFiles files name (Some (fault.Unbuilt n)) = loaded_of files name ≡ Unbuilt n
+AnswersFiles files name (Some fault.Write) = (l : LoadedFiles) × (loaded_of files name ≡ Loads l)
+AnswersFiles files name (Some fault.Memory) = ⊤
+
+-- a fault of reading comes only where the folder's count rose, and names its last fault
+abbrev pub ReadCause : ℕ → ℕ → Option (List ℕ) → Option Fault → Type 0
+ReadCause before now last None = ⊤
+ReadCause before now last (Some fault.Usage) = ⊤
+ReadCause before now last (Some (fault.Read name)) = Rose before now × IfSome last (λ n. n ≡ name)
+ReadCause before now last (Some (fault.Unbuilt name)) = ⊤
+ReadCause before now last (Some fault.Write) = ⊤
+ReadCause before now last (Some fault.Memory) = ⊤
+
+-- parts of the run
+
+-- an answer of loading, where the files are told
+abbrev pub AnswersLoad : {A : Type 0} → Load A → (List ℕ → Type 0) → Result A Fault → Type 0
+AnswersLoad want IsRead (Ok x) = want ≡ Loads x
+AnswersLoad want IsRead (Err fault.Usage) = ⊥
+AnswersLoad want IsRead (Err (fault.Read name)) = IsRead name
+AnswersLoad want IsRead (Err (fault.Unbuilt name)) = want ≡ Unbuilt name
+AnswersLoad want IsRead (Err fault.Write) = ⊥
+AnswersLoad want IsRead (Err fault.Memory) = ⊤
+
+-- a fault that loading may answer
+abbrev pub IsOfLoading : Fault → Type 0
+IsOfLoading fault.Usage = ⊥
+IsOfLoading (fault.Read name) = ⊤
+IsOfLoading (fault.Unbuilt name) = ⊤
+IsOfLoading fault.Write = ⊥
+IsOfLoading fault.Memory = ⊤
+
+-- what may be told once all is loaded
+abbrev pub IsOfPlay : Option Fault → Type 0
+IsOfPlay None = ⊤
+IsOfPlay (Some fault.Usage) = ⊥
+IsOfPlay (Some (fault.Read name)) = ⊥
+IsOfPlay (Some (fault.Unbuilt name)) = ⊥
+IsOfPlay (Some fault.Write) = ⊤
+IsOfPlay (Some fault.Memory) = ⊤
+
+-- what is told of a write, where the results want memory or don't
+abbrev pub told_of_write : Bool → Result ⊤ WriteFault → Option Fault
+told_of_write wanting (Ok u) = if wanting then Some fault.Memory else None
+told_of_write wanting (Err write.Failed) = Some fault.Write
+told_of_write wanting (Err write.Memory) = Some fault.Memory
