@@ -1,2 +1,1 @@
-pub mod FirstRun
 pub mod More

@@ -1,5 +1,5 @@
 -- What a folder answers.
-use Rattle.std.specs.Prelude.{◌≡◌, ⊤, ℕ, ◌+◌, ◌<◌, ◌≤◌, List, length, Option, Some, None, Result, Ok, Err}
+use Rattle.std.specs.Prelude.{◌≡◌, ⊤, ℕ, ◌+◌, ◌<◌, ◌≤◌, List, length, Option, Some, None, IfSome, Result, Ok, Err}
 use Rattle.dq_outside.specs.Causes.{Rose, RoseBy}
 use Rattle.dq_outside.specs.declared.folder.FolderFault.{FolderFault}
 use Rattle.dq_outside.specs.declared.folder.FolderFault.TheVariants as fault
@@ -25,11 +25,11 @@ AnswersAsTold file room (Err fault.TooLong) = IsLonger file room
 AnswersAsTold file room (Err fault.Failed) = FitsRoom file room
 AnswersAsTold file room (Err fault.Memory) = ⊤
 
--- the name of the last fault: the asked one after a fault, and otherwise as before
+-- the name of the last fault, where it is told: the asked one after a fault, and otherwise as before
 abbrev pub NamesLastFault : List ℕ → Option (List ℕ) → Option (List ℕ) → Result (List ℕ) FolderFault → Type 0
 NamesLastFault name before now (Ok bytes) = now ≡ before
 NamesLastFault name before now (Err fault.TooLong) = now ≡ before
-NamesLastFault name before now (Err fault.Failed) = now ≡ Some name
+NamesLastFault name before now (Err fault.Failed) = IfSome now (λ n. n ≡ name)
 NamesLastFault name before now (Err fault.Memory) = now ≡ before
 
 -- how the count of faults moves

@@ -20,7 +20,7 @@ pub trait Folder {
     /// What it holds by name, where it tells that.
     ghost files: { Self → Option Files };
 
-    /// The name that was asked for at its last fault, if there was one.
+    /// The name that was asked for at its last fault, if there was one and it tells that.
     ghost last_fault: { Self → Option (List ℕ) };
 
     /// How often it has failed. The count stands still at the last value of u64.

@@ -1,5 +1,5 @@
 -- A canonical form is its own.
-use Rattle.std.proofs.Common.{◌≡◌, ℕ, ℤ, Bool, true, false, List, [], ◌∷◌, map, refl, sym, ap, ◌∙◌, Option, Some, None, cond}
+use Rattle.std.proofs.Common.{◌≡◌, ℤ, Bool, true, false, [], map, refl, ap, ◌∙◌, Option, Some, None}
 use Rattle.std.specs.Prelude.{int_lt, if◌then◌else◌}
 use Rattle.dq_base.specs.Orders.{value_cmp}
 use Rattle.dq_base.specs.ValueOrder.{value_cmp_total}

@@ -1,18 +1,18 @@
 -- A query and its canonical form have one answer.
-use Rattle.std.proofs.Common.{◌≡◌, ℕ, ℤ, Bool, true, false, not, ◌||◌, ◌&&◌, List, [], ◌∷◌, map, refl, sym, ap, ◌∙◌, Option, Some, None, cond, arith}
+use Rattle.std.proofs.Common.{◌≡◌, ℤ, Bool, true, false, not, ◌||◌, ◌&&◌, List, [], ◌∷◌, map, refl, sym, ap, ◌∙◌, Option, Some, None, arith}
 use Rattle.std.specs.Prelude.{int_lt, int_le, if◌then◌else◌}
-use Rattle.std.specs.List.{fold, list_any, list_all, filter}
+use Rattle.std.specs.List.{list_any, list_all}
 use Rattle.std.specs.declared.cmp.Ordering.{Ordering}
-use Rattle.std.specs.declared.cmp.Ordering.TheVariants.{Less, Equal, Greater}
+use Rattle.std.specs.declared.cmp.Ordering.TheVariants.{Equal}
 use Rattle.std.specs.Ordering.{is_eq}
 use Rattle.std.proofs.lemmas.Int.{ints}
 use Rattle.std.proofs.lemmas.List.Folds.{list_all-map}
 use Rattle.std.proofs.lemmas.List.Elements.{filter_agree}
 use Rattle.dq_base.specs.Orders.{value_cmp}
-use Rattle.dq_base.specs.Filters.{holds, keeps, kept, value_at, lies_between, from_low, to_high}
+use Rattle.dq_base.specs.Filters.{holds, keeps, kept, value_at, lies_between}
 use Rattle.dq_base.specs.Answers.{answer, first_rows, group_row, keys_of, row_cmp}
 use Rattle.dq_base.specs.Canonical.{canonical, canonical_bounds, canonical_test, canonical_predicate, predicate_cmp}
-use Rattle.dq_base.specs.Sets.{set_of, with, put_by, has, ascending}
+use Rattle.dq_base.specs.Sets.{set_of, has, ascending}
 use Rattle.dq_base.proofs.SetTests.{any_set_of}
 use Rattle.dq_base.proofs.Exact.{exact_values, exact_predicates}
 use Rattle.dq_base.specs.declared.value.Value.{Value}

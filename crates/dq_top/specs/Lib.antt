@@ -1,3 +1,4 @@
+pub mod FirstRun
 pub mod Loading
 pub mod Outcomes
 pub mod Words

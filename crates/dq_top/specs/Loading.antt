@@ -1,5 +1,5 @@
 -- What the files that a folder holds load to.
-use Rattle.std.specs.Prelude.{◌≡◌, ◌⊎◌, ℕ, ◌-◌, List, [], ◌∷◌, length, min, nat_lt, slice_get, Option, Some, None, option_map, option_map_or, Result, Ok, Err, if◌then◌else◌}
+use Rattle.std.specs.Prelude.{◌≡◌, ◌⊎◌, ℕ, ◌-◌, List, [], ◌∷◌, length, min, nat_lt, slice_get, Option, Some, None, Result, Ok, Err, if◌then◌else◌}
 use Rattle.std.specs.List.{flat_map}
 use Rattle.dq_base.specs.Headings.{Heading}
 use Rattle.dq_base.specs.Limits.{script_room, file_room, all_room, cell_room}
@@ -53,6 +53,13 @@ publication_in schemas (Batch zones) = []
 abbrev pub publications : Script → List Publication
 publications script = flat_map (λ steps. flat_map (publication_in script.schemas) steps) script.lanes
 
+-- the file that the first step of the first lane publishes
+abbrev pub first_file_of : List (List Step) → List ℕ
+first_file_of [] = []
+first_file_of ([] ∷ lanes) = []
+first_file_of ((Publish source how file ∷ steps) ∷ lanes) = file
+first_file_of ((Batch zones ∷ steps) ∷ lanes) = []
+
 abbrev pub version_of : Publication → Result (List (List Value)) RowFault → Load Version
 version_of p (Ok rows) = Loads (record { heading = p.heading; rows = rows })
 version_of p (Err fault) = Unbuilt p.file
@@ -63,7 +70,8 @@ version_in p left cells None = Missing p.file
 version_in p left cells (Some bytes) = if nat_lt (min left file_room) (length bytes) then Unbuilt p.file else version_of p (rows_of p.heading cells bytes)
 
 abbrev pub bytes_in : Option (List ℕ) → ℕ
-bytes_in file = option_map_or length 0 file
+bytes_in None = 0
+bytes_in (Some bytes) = length bytes
 
 -- the rows of the files in order, where so many bytes and cells are left
 abbrev pub versions_in : Files → ℕ → ℕ → List Publication → Load (List Version)

@@ -7,6 +7,8 @@ use Rattle.std.specs.declared.sync.Arc.{Arc}
 use Rattle.dq_outside.specs.Causes.{Rose}
 use Rattle.dq_outside.specs.Reads.{Files}
 use Rattle.dq_outside.specs.Writes.{appended, WritesPrefix}
+use Rattle.dq_outside.specs.declared.folder.FolderFault.{FolderFault}
+use Rattle.dq_outside.specs.declared.folder.FolderFault.TheVariants as folder
 use Rattle.dq_extract.specs.Loads.{LoadedFiles}
 use Rattle.dq_journal.specs.Right.{IsRight}
 use Rattle.dq_journal.specs.declared.entry.Entry.{Entry}
@@ -143,6 +145,22 @@ AnswersLoad want IsRead (Err (fault.Read name)) = IsRead name
 AnswersLoad want IsRead (Err (fault.Unbuilt name)) = want ≡ Unbuilt name
 AnswersLoad want IsRead (Err fault.Write) = ⊥
 AnswersLoad want IsRead (Err fault.Memory) = ⊤
+
+-- the fault of a file that isn't built: its name, or want of memory
+abbrev pub NamesUnbuilt : List ℕ → Fault → Type 0
+NamesUnbuilt name fault.Usage = ⊥
+NamesUnbuilt name (fault.Read n) = ⊥
+NamesUnbuilt name (fault.Unbuilt n) = n ≡ name
+NamesUnbuilt name fault.Write = ⊥
+NamesUnbuilt name fault.Memory = ⊤
+
+-- the fault of a file that a folder didn't give, by the folder's
+abbrev pub NamesFault : List ℕ → FolderFault → Fault → Type 0
+NamesFault name of fault.Usage = ⊥
+NamesFault name of (fault.Read n) = (of ≡ folder.Failed) × (n ≡ name)
+NamesFault name of (fault.Unbuilt n) = (of ≡ folder.TooLong) × (n ≡ name)
+NamesFault name of fault.Write = ⊥
+NamesFault name of fault.Memory = ⊤
 
 -- a fault that loading may answer
 abbrev pub IsOfLoading : Fault → Type 0

@@ -1,4 +1,4 @@
-use Rattle.std.proofs.Common.{◌<◌, length, arith, subst, ap, ◌∙◌}
+use Rattle.std.proofs.Common.{◌<◌, length, arith, ap}
 use Rattle.dq_query.proofs.Repeats.{dims_in_range, more_repeat}
 use Rattle.dq_query.proofs.validity.repeats_dim.Goals as goal
 
