@@ -24,7 +24,7 @@ length-flat_map-more f xs i d lt =
 pub length-flat_map-take : {X A : Type 0} (f : X → List A) (xs : List X) (n : ℕ) → length (flat_map f (take n xs)) ≤ length (flat_map f xs)
 length-flat_map-take f xs n =
     let parts = ap (λ ys. length (flat_map f ys)) (sym (take-append-drop n xs)) ∙ ap length (flat_map-append f (take n xs) (drop n xs))
-        ∙ length-append (flat_map f (take n xs)) (flat_map f (drop n xs)) in
+    ∙ length-append (flat_map f (take n xs)) (flat_map f (drop n xs)) in
     omega (arith, parts)
 
 item_there : {X : Type 0} (zero_number : Bool) (items : List X) (place : ℕ) (x : X) → (if zero_number then None else slice_get items place) ≡ Some x → slice_get items place ≡ Some x

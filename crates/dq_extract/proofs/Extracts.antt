@@ -49,5 +49,5 @@ pub IsExtract-next : (heading heading' : Heading) (versions versions' : List Ver
     → IsExtract heading' versions'
 IsExtract-next heading heading' versions versions' whole v old is new same cells rows same_heading next =
     let pushed = IsExtract-push heading versions v old new (same ∙ ap (λ w. w.heading) (sym is))
-        (omega (arith, ap cells_of is)) (omega (arith, ap (λ w. length w.rows) is)) in
+    (omega (arith, ap cells_of is)) (omega (arith, ap (λ w. length w.rows) is)) in
     rw (same_heading, next) pushed

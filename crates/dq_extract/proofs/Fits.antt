@@ -75,7 +75,7 @@ row_of-fits : (heading : Heading) (room row : ℕ) (fields : List (List ℕ)) (v
     → row_of heading room row fields ≡ Ok values → row_fits heading.sorts values ≡ true
 row_of-fits heading room row fields values paired is =
     let passed = tests_passed (length fields == length heading.names) (nat_lt room (row * length heading.names)) TooManyCells (Width row)
-        (values_from row 1 heading.sorts fields) values is in
+    (values_from row 1 heading.sorts fields) values is in
     let same : length fields ≡ length heading.names = let wide = passed.0 in grind (arith, common_steps) in
     values_from-fit row 1 heading.sorts fields values (same ∙ paired) passed.1
 

@@ -4,4 +4,5 @@ pub mod Fits
 pub mod Leaves
 pub mod Marks
 pub mod Numbers
+pub mod Places
 pub mod Walk

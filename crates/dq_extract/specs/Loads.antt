@@ -41,3 +41,10 @@ published_at segments place (Some (Batch zones)) = None
 -- the segment of a publish step; lanes and steps count from 1
 abbrev pub segment_of : LoadedFiles → ℕ → ℕ → Option Version
 segment_of l lane step = published_at l.segments (before_step l.script.lanes lane step) (step_of l.script.lanes lane step)
+
+-- a publish step has a segment, under the heading at its source; there is none for a batch, or where there is no step
+abbrev pub FitsStep : List Heading → Option Step → Option Version → Type 0
+FitsStep headings None found = found ≡ None
+FitsStep headings (Some (Publish source how file)) None = ⊥
+FitsStep headings (Some (Publish source how file)) (Some v) = slice_get headings source ≡ Some v.heading
+FitsStep headings (Some (Batch zones)) found = found ≡ None

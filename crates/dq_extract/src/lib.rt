@@ -17,7 +17,6 @@ mod loading;
 mod records;
 mod segment;
 mod segments;
-
 #[cfg(test)]
 mod tests;
 

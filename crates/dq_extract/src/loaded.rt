@@ -2,8 +2,8 @@ ghost use Rattle.std.specs.Arc.{arc_value};
 ghost use Rattle.std.specs.List.{flat_map};
 ghost use Rattle.std.specs.Option.{option_copied};
 ghost use Rattle.std.specs.Prelude.{◌≡◌, ◌-◌, ◌<◌, ◌^◌, length, option_map, take};
-ghost use Rattle.dq_base.specs.Scripts.{numbered, source_in, sources_of};
-ghost use Rattle.dq_extract.specs.Loads.{IsLoaded, segment_of};
+ghost use Rattle.dq_base.specs.Scripts.{numbered, source_in, sources_of, step_of};
+ghost use Rattle.dq_extract.specs.Loads.{FitsStep, IsLoaded, segment_of};
 
 use crate::segment::Segment;
 use crate::segments::SegmentList;
@@ -94,7 +94,8 @@ impl Loaded {
     /// The segment of a publish step, or none exactly where there is no such step or it is a batch. Lanes and steps are
     /// numbered from 1. The cost is that of counting the steps before it.
     pub fn segment(&self, lane: u32, step: u32) -> Option<&Arc<Segment>>
-        ensures { option_map (λ owner. arc_value owner.now) result ≡ segment_of self.now lane step }
+        ensures segment { option_map (λ owner. arc_value owner.now) result ≡ segment_of self.now lane step }
+        ensures step { FitsStep self.now.script.schemas (step_of self.now.script.lanes lane step) (segment_of self.now lane step) }
     {
         let lanes = &self.script.lanes;
         let steps = item_at(lanes, lane)?;

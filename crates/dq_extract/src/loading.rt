@@ -111,12 +111,7 @@ fn read_file(
 /// it is a row with one field for each column. An empty field is null, a field of a whole column is a dash or none and
 /// decimal digits within 64 bits, and a field of a text column is UTF-8. `Unbuilt` comes exactly where the file has a
 /// fault. The cost is linear in the bytes.
-pub fn load(
-    alloc: Global,
-    schema: &Schema,
-    room: u64,
-    bytes: &[u8],
-) -> Result<Segment, LoadFault>
+pub fn load(alloc: Global, schema: &Schema, room: u64, bytes: &[u8]) -> Result<Segment, LoadFault>
     requires columns { 0 < length schema.now.names }
     requires room { room ≤ 2 ^ 23 }
     ensures answer { AnswersLoad schema.now room bytes.now result }

@@ -1,8 +1,6 @@
 -- The groups of rows, and one more row.
-use Rattle.std.proofs.Common.{◌≡◌, ℕ, ◌+◌, ◌^◌, ◌≤◌, ◌<◌, Bool, true, false, ◌||◌, cond, List, [], ◌∷◌, ◌++◌, map, length, refl, sym, ap, ◌∙◌, subst, Option, Some, None, arith}
+use Rattle.std.proofs.Common.{◌≡◌, ℕ, ◌+◌, ◌^◌, ◌≤◌, ◌<◌, Bool, true, false, ◌||◌, cond, List, [], ◌∷◌, ◌++◌, map, length, refl, sym, ap, ◌∙◌, subst, Some, None, arith}
 use Rattle.std.specs.List.{All, filter, list_any}
-use Rattle.std.specs.declared.cmp.Ordering.{Ordering}
-use Rattle.std.specs.declared.cmp.Ordering.TheVariants.{Equal}
 use Rattle.std.specs.Ordering.{is_eq}
 use Rattle.std.specs.Cmp.{IsTotalOrder}
 use Rattle.std.specs.BTreeMap.{insert_entry, is_at}
@@ -10,9 +8,9 @@ use Rattle.std.specs.Map.{lookup, set_value}
 use Rattle.std.proofs.lemmas.Cmp.{lists_total, eq_by_cmp_equiv}
 use Rattle.std.proofs.lemmas.List.{append-nil, map_push}
 use Rattle.std.proofs.lemmas.List.Elements.{filter-append}
-use Rattle.dq_base.specs.Answers.{answer, cell_of, first_rows, fold_of, group_row, key_of, keys, keys_of, plain, row_cmp, rows_with}
+use Rattle.dq_base.specs.Answers.{answer, cell_of, first_rows, group_row, key_of, keys, keys_of, plain, row_cmp, rows_with}
 use Rattle.dq_base.specs.Filters.{keeps, kept}
-use Rattle.dq_base.specs.Orders.{key_cmp, value_cmp}
+use Rattle.dq_base.specs.Orders.{key_cmp}
 use Rattle.dq_base.specs.Sets.{ascending, has, set_of, with}
 use Rattle.dq_base.specs.ValueOrder.{value_cmp_total}
 use Rattle.dq_base.proofs.Exact.{exact_keys}
@@ -23,7 +21,7 @@ use Rattle.dq_base.specs.declared.cell.Cell.{Cell}
 use Rattle.dq_base.specs.declared.query.Measure.{Measure}
 use Rattle.dq_base.specs.declared.query.Query.{Query}
 use Rattle.dq_fold.specs.Folding.{AllSmall, entries_by, group_cells, groups_of, tallies_of}
-use Rattle.dq_fold.specs.Tallies.{added, count_in, tally_cell, tally_of}
+use Rattle.dq_fold.specs.Tallies.{added, count_in, tally_of}
 use Rattle.dq_fold.specs.declared.tally.Tally.{Tally}
 use Rattle.dq_fold.proofs.Mapped.{insert_mapped, lookup_mapped, set_mapped}
 use Rattle.dq_fold.proofs.Tallied.{added_tallies, all_map, count_small, fold_push, length_filter, tally_cells_of}

@@ -1,11 +1,11 @@
 -- A tally of rows, and one more row.
-use Rattle.std.proofs.Common.{◌≡◌, ℕ, zero, suc, pos, ◌+◌, ◌-◌, ◌≤◌, ◌<◌, Bool, true, false, cond, if◌then◌else◌, List, [], ◌∷◌, ◌++◌, map, take, drop, length, refl, sym, ap, ◌∙◌, Option, Some, None, arith, add-one, length-append}
+use Rattle.std.proofs.Common.{◌≡◌, ℕ, zero, suc, pos, ◌+◌, ◌≤◌, ◌<◌, Bool, true, false, cond, if◌then◌else◌, List, [], ◌∷◌, ◌++◌, map, take, drop, length, refl, sym, ap, ◌∙◌, Option, Some, None, arith, add-one, length-append}
 use Rattle.std.specs.Prelude.{slice_get, slice_set, slice_index_or, ◌+ℤ◌}
 use Rattle.std.specs.List.{fold, filter}
 use Rattle.std.specs.Ordering.{is_lt, is_gt}
 use Rattle.std.proofs.lemmas.List.{append-nil, map_push, length-map}
 use Rattle.std.proofs.lemmas.List.Elements.{filter-append}
-use Rattle.dq_base.specs.Answers.{average_of, count_cell, fold_of, greater, greatest_of, is_present, least_of, lesser, number_of, present, sum_of, total}
+use Rattle.dq_base.specs.Answers.{average_of, fold_of, greater, greatest_of, is_present, least_of, lesser, number_of, present, sum_of, total}
 use Rattle.dq_base.specs.Filters.{value_at}
 use Rattle.dq_base.specs.Orders.{value_cmp}
 use Rattle.dq_base.specs.Sets.{set_of, with}
@@ -13,9 +13,8 @@ use Rattle.dq_base.specs.declared.value.Value.{Value}
 use Rattle.dq_base.specs.declared.value.Value.TheVariants as value
 use Rattle.dq_base.specs.declared.query.Measure.{Measure}
 use Rattle.dq_base.specs.declared.query.Measure.TheVariants as measure
-use Rattle.dq_fold.specs.Sums.{Sums, summed, sum_cell, average_cell}
-use Rattle.dq_fold.specs.Tallies.{added, best_cell, count_in, counted, filled, greatest, least, lowered, lowers, raised, raises, seen, sums, tally_cell, tally_of}
-use Rattle.dq_fold.specs.declared.tally.Tally.{Tally}
+use Rattle.dq_fold.specs.Sums.{summed, sum_cell, average_cell}
+use Rattle.dq_fold.specs.Tallies.{added, best_cell, count_in, counted, filled, greatest, least, lowered, raised, seen, sums, tally_cell, tally_of}
 use Rattle.dq_fold.specs.declared.tally.Tally.TheVariants as tally
 
 pub length_filter : {X : Type 0} (p : X → Bool) (xs : List X) → length (filter p xs) ≤ length xs

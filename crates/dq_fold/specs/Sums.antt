@@ -1,7 +1,6 @@
 -- A sum, and how many were added.
-use Rattle.std.specs.Prelude.{◌≡◌, ℕ, ℤ, pos, ◌+◌, ◌-◌, ◌*◌, ◌^◌, ◌≤◌, ◌+ℤ◌, unsigned_abs, cond, eqb, Option, Some, None}
+use Rattle.std.specs.Prelude.{ℕ, ℤ, ◌+◌, ◌-◌, ◌*◌, ◌^◌, ◌≤◌, ◌+ℤ◌, unsigned_abs, cond, eqb, Option, Some, None}
 use Rattle.dq_base.specs.Answers.{number_of}
-use Rattle.dq_base.specs.Ratios.{Fraction}
 use Rattle.dq_base.specs.declared.value.Value.{Value}
 use Rattle.dq_base.specs.declared.cell.Cell.{Cell}
 use Rattle.dq_base.specs.declared.cell.Cell.TheVariants as cell

@@ -1,5 +1,5 @@
 -- What is kept of a group's rows for each measure.
-use Rattle.std.specs.Prelude.{ℕ, pos, ◌+◌, Bool, true, cond, List, [], ◌∷◌, length, map, Option, Some, None}
+use Rattle.std.specs.Prelude.{ℕ, pos, ◌+◌, Bool, true, cond, List, [], ◌∷◌, length, Option, Some, None}
 use Rattle.std.specs.List.{fold}
 use Rattle.std.specs.Ordering.{is_lt, is_gt}
 use Rattle.dq_base.specs.Answers.{cell_of, count_cell, greater, lesser, present, total}
@@ -26,10 +26,12 @@ filled (value.Word t) = Some (value.Word t)
 abbrev pub sums : List Value → Sums
 sums vs = record { sum = total vs; count = length vs }
 
+-- the least value, if there is one
 abbrev pub least : List Value → Option Value
 least [] = None
 least (v ∷ vs) = Some (fold lesser v vs)
 
+-- the greatest value, if there is one
 abbrev pub greatest : List Value → Option Value
 greatest [] = None
 greatest (v ∷ vs) = Some (fold greater v vs)
@@ -54,6 +56,7 @@ count_in (tally.Greatest c v) = 0
 count_in (tally.Distinct c vs) = 0
 count_in (tally.Average c t) = t.count
 
+-- the cell of a value, or null
 abbrev pub best_cell : Option Value → Cell
 best_cell None = cell.Null
 best_cell (Some v) = cell_of v
@@ -68,27 +71,32 @@ tally_cell (tally.Greatest c v) = best_cell v
 tally_cell (tally.Distinct c vs) = count_cell vs
 tally_cell (tally.Average c t) = average_cell t
 
+-- one more, if there is a value
 abbrev pub counted : Option Value → ℕ → ℕ
 counted None n = n
 counted (Some v) n = n + 1
 
--- whether a value takes the place of the least so far, or of the greatest
+-- whether a value takes the place of the least so far
 abbrev pub lowers : Value → Option Value → Bool
 lowers v None = true
 lowers v (Some best) = is_lt (value_cmp v best)
 
+-- whether a value takes the place of the greatest so far
 abbrev pub raises : Value → Option Value → Bool
 raises v None = true
 raises v (Some best) = is_gt (value_cmp v best)
 
+-- the least once a value comes, if there is one
 abbrev pub lowered : Option Value → Option Value → Option Value
 lowered None best = best
 lowered (Some v) best = cond (lowers v best) (Some v) best
 
+-- the greatest once a value comes, if there is one
 abbrev pub raised : Option Value → Option Value → Option Value
 raised None best = best
 raised (Some v) best = cond (raises v best) (Some v) best
 
+-- the different values once a value comes, if there is one
 abbrev pub seen : Option Value → List Value → List Value
 seen None vs = vs
 seen (Some v) vs = with value_cmp v vs

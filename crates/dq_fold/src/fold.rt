@@ -12,7 +12,7 @@ use std::collections::BTreeMap;
 use std::marker::Model;
 
 /// The groups of the rows that were added, for one query. Contracts see it as the query, the groups by key, how many rows
-/// were added, and whether an addition failed.
+/// were added, and whether an addition failed: then it is spent.
 #[derive(Drop)]
 pub struct Fold {
     alloc: Global,
@@ -34,7 +34,7 @@ impl Model for Fold {
 }
 
 impl Fold {
-    /// The fold of no rows.
+    /// The fold of no rows. Without dimensions it has one group from the start, and else none.
     pub fn new(alloc: Global, key: &Canon) -> Result<Fold, Memory>
         ensures { IfOk result (λ fold. fold ≡ folded key.now []) }
     {
@@ -50,9 +50,10 @@ impl Fold {
         })
     }
 
-    /// Adds a row. A column that it lacks reads as null. After an `Err` the fold is spent.
+    /// Adds a row. A column that it lacks reads as null. After an `Err` the fold is spent, and can only be dropped.
     ///
-    /// A row that isn't kept costs its predicates only. A row of a known group costs a look-up among the groups.
+    /// A row that isn't kept costs its predicates only. A row of a known group costs a look-up among the groups, and an
+    /// addition for each measure.
     pub fn add(&mut self, values: &[Value]) -> Result<(), Memory>
         requires fresh { self.old.spent ≡ false }
         requires room { self.old.rows < 2 ^ 23 }
@@ -72,7 +73,7 @@ impl Fold {
         Ok(())
     }
 
-    /// The answer over the rows that were added.
+    /// The answer over the rows that were added. It costs a sort of the groups' rows.
     pub fn finish(self) -> Result<Table, Memory>
         requires { self.spent ≡ false }
         ensures { IfOk result (λ table. (rows : ListOf (ListOf ValueOf)) → self ≡ folded self.key rows → table ≡ answer self.key rows) }

@@ -87,12 +87,7 @@ fn put_column(
 }
 
 /// Makes a buffer the row's key, in the memory that it has.
-pub fn fill(
-    alloc: Global,
-    buffer: &mut Values,
-    dims: &[u32],
-    row: &[Value],
-) -> Result<(), Memory>
+pub fn fill(alloc: Global, buffer: &mut Values, dims: &[u32], row: &[Value]) -> Result<(), Memory>
     ensures { OnOk result (buffer.new ≡ key_of dims.now row.now) }
 {
     for (place, column) in dims.iter().enumerate() {

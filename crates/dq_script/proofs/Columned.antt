@@ -1,10 +1,9 @@
 -- Columns read so far.
-use Rattle.std.proofs.Common.{◌≡◌, ℕ, ◌+◌, List, [], ◌∷◌, ◌++◌, length, Option, Some, None, refl, ap, sym, ◌∙◌, append_assoc, arith, length-append}
-use Rattle.serde_json.specs.Data.{Data, Items, item}
+use Rattle.std.proofs.Common.{◌≡◌, ℕ, List, ◌++◌, length, Option, Some, None}
+use Rattle.serde_json.specs.Data.{Items}
 use Rattle.dq_base.specs.Headings.{Heading}
 use Rattle.dq_base.specs.declared.schema.Sort.{Sort}
-use Rattle.dq_script.specs.declared.columns.Column.{Column}
-use Rattle.dq_script.specs.Columns.{column_of, column_then, columns_in}
+use Rattle.dq_script.specs.Columns.{columns_in}
 
 -- these columns before those of what follows
 abbrev pub behind : List (List ℕ) → List Sort → Option Heading → Option Heading

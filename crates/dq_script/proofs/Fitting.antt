@@ -1,6 +1,6 @@
 -- The measures that are read fit the columns.
-use Rattle.std.proofs.Common.{◌≡◌, ℕ, ◌+◌, ◌<◌, List, [], ◌∷◌, length, Bool, true, false, ◌&&◌, ◌||◌, Option, Some, None, refl, subst, arith}
-use Rattle.std.specs.Prelude.{nat_le, if◌then◌else◌, option_and_then, slice_get, codes}
+use Rattle.std.proofs.Common.{◌≡◌, ℕ, ◌+◌, ◌<◌, List, [], ◌∷◌, length, true, false, Option, Some, None, refl, subst, arith}
+use Rattle.std.specs.Prelude.{nat_le, slice_get, codes}
 use Rattle.std.specs.List.{list_any, list_all}
 use Rattle.std.proofs.lemmas.Bool.{lt-leb, and_from}
 use Rattle.std.proofs.lemmas.Option.{option_and_then_some, cond_some, slice_get_within}

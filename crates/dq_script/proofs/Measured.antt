@@ -1,5 +1,5 @@
 -- Measures read so far.
-use Rattle.std.proofs.Common.{◌≡◌, List, ◌++◌, Option, Some, None}
+use Rattle.std.proofs.Common.{List, ◌++◌, Option, Some, None}
 use Rattle.dq_base.specs.declared.query.Measure.{Measure}
 
 -- these measures before those of what follows

@@ -1,5 +1,5 @@
 -- How many columns and measures there are.
-use Rattle.std.proofs.Common.{◌≡◌, ℕ, ◌+◌, ◌<◌, ◌≤◌, List, [], ◌∷◌, length, Bool, true, false, Option, Some, None, refl, ap, sym, ◌∙◌, subst, arith}
+use Rattle.std.proofs.Common.{◌≡◌, ℕ, ◌+◌, ◌<◌, ◌≤◌, [], ◌∷◌, length, Bool, true, false, Option, Some, None, refl, sym, ◌∙◌, subst, arith}
 use Rattle.std.specs.Prelude.{nat_le, if◌then◌else◌, option_and_then}
 use Rattle.std.proofs.lemmas.Bool.{leb-true}
 use Rattle.std.proofs.lemmas.Option.{option_and_then_some, cond_some}
@@ -65,6 +65,6 @@ pub record IsTable (h : Heading) : Type 0 where
 pub columns_of-IsTable : (d : Data) (h : Heading) → columns_of d ≡ Some h → IsTable h
 columns_of-IsTable d h e =
     option_and_then_some unless_repeated (option_and_then columns_in (few_items d)) h e (λ g found is_kept.
-        option_and_then_some columns_in (few_items d) g found (λ es few_are read.
-            let sized = columns_in-length es g read in
-            subst IsTable (kept (repeats g.names) g h is_kept) record { few = columns-few d es g few_are read; paired = sized.sorts ∙ sym sized.names }))
+    option_and_then_some columns_in (few_items d) g found (λ es few_are read.
+    let sized = columns_in-length es g read in
+    subst IsTable (kept (repeats g.names) g h is_kept) record { few = columns-few d es g few_are read; paired = sized.sorts ∙ sym sized.names }))

@@ -1,5 +1,5 @@
 -- The extract that a script writes.
-use Rattle.std.specs.Prelude.{◌≡◌, ℕ, List, [], ◌∷◌, Option, option_and_then, option_map, codes}
+use Rattle.std.specs.Prelude.{ℕ, List, Option, option_and_then, option_map, codes}
 use Rattle.serde_json.specs.Data.{Data}
 use Rattle.dq_base.specs.Headings.{Heading}
 use Rattle.dq_script.specs.Columns.{columns_of}

@@ -1,5 +1,5 @@
 -- The first form of a script, over the JSON that its bytes read as.
-use Rattle.std.specs.Prelude.{◌≡◌, ⊤, ℕ, ℤ, pos, negsuc, ◌==◌, List, [], ◌∷◌, Bool, true, false, Option, Some, None, option_and_then, option_map, if◌then◌else◌, Result, Ok, Err, codes}
+use Rattle.std.specs.Prelude.{ℕ, ℤ, pos, negsuc, ◌==◌, List, [], ◌∷◌, Bool, false, Option, Some, None, option_and_then, option_map, if◌then◌else◌, Result, codes}
 use Rattle.std.specs.Str.{is_utf8}
 use Rattle.serde_json.specs.Data.{Data}
 use Rattle.serde_json.specs.Find.{as_number, as_i64}
@@ -42,7 +42,7 @@ script_with e s = record {
   clever = 64;
   lanes = lane_with s ∷ [];
   schedule = [];
-  fails = record { dials = []; links = [] } ∷ []
+  fails = record { dials = []; links = [] } ∷ [];
 }
 
 abbrev pub script_around : Data → Extract → Option Script

@@ -1,5 +1,5 @@
 -- What the parts of a JSON value are.
-use Rattle.std.specs.Prelude.{◌≡◌, ⊤, ℕ, ◌+◌, List, [], ◌∷◌, Bool, true, false, nat_le, Option, Some, None, option_and_then, if◌then◌else◌, Result, Ok, Err}
+use Rattle.std.specs.Prelude.{◌≡◌, ⊤, ℕ, ◌+◌, List, [], ◌∷◌, Bool, false, nat_le, Option, Some, None, option_and_then, if◌then◌else◌, Result, Ok, Err}
 use Rattle.std.specs.Str.{bytes_eq}
 use Rattle.serde_json.specs.Data.{Data, Items, no_items, item}
 use Rattle.serde_json.specs.Find.{as_str, as_array}
@@ -20,6 +20,7 @@ is_text text (Some s) = bytes_eq s text
 abbrev pub is_string : List ℕ → Data → Bool
 is_string text d = is_text text (as_str d)
 
+-- a text that isn't empty
 abbrev pub unless_empty : List ℕ → Option (List ℕ)
 unless_empty [] = None
 unless_empty (b ∷ bs) = Some (b ∷ bs)
@@ -28,6 +29,7 @@ unless_empty (b ∷ bs) = Some (b ∷ bs)
 abbrev pub string_of : Data → Option (List ℕ)
 string_of d = option_and_then unless_empty (as_str d)
 
+-- the one item
 abbrev pub only : Items → Option Data
 only no_items = None
 only (item d no_items) = Some d
@@ -37,6 +39,7 @@ only (item d (item e ds)) = None
 abbrev pub only_item : Data → Option Data
 only_item d = option_and_then only (as_array d)
 
+-- the two items
 abbrev pub two : Items → Option (Data × Data)
 two no_items = None
 two (item d no_items) = None
@@ -47,10 +50,12 @@ two (item d (item e (item f ds))) = None
 abbrev pub two_items : Data → Option (Data × Data)
 two_items d = option_and_then two (as_array d)
 
+-- how many items there are
 abbrev pub count : Items → ℕ
 count no_items = 0
 count (item d ds) = count ds + 1
 
+-- the items, where there are 1 to 64
 abbrev pub few : Items → Option Items
 few no_items = None
 few (item d ds) = if nat_le (count (item d ds)) 64 then Some (item d ds) else None

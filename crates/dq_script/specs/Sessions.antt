@@ -1,5 +1,5 @@
 -- The one lane that a script writes.
-use Rattle.std.specs.Prelude.{◌≡◌, ℕ, List, ◌&&◌, Option, Some, None, option_and_then, option_map, if◌then◌else◌, codes}
+use Rattle.std.specs.Prelude.{ℕ, List, ◌&&◌, Option, None, option_and_then, option_map, if◌then◌else◌, codes}
 use Rattle.serde_json.specs.Data.{Data}
 use Rattle.dq_base.specs.declared.query.Query.{Query}
 use Rattle.dq_script.specs.Members.{both, only_member, three_members}

@@ -1,5 +1,5 @@
 -- The zone that a script writes.
-use Rattle.std.specs.Prelude.{◌≡◌, ℕ, List, [], ◌∷◌, Option, Some, None, option_and_then, option_map, position, if◌then◌else◌, codes}
+use Rattle.std.specs.Prelude.{ℕ, List, [], ◌∷◌, Option, Some, None, option_and_then, option_map, position, if◌then◌else◌, codes}
 use Rattle.std.specs.Str.{bytes_eq}
 use Rattle.serde_json.specs.Data.{Data, Items, no_items, item}
 use Rattle.serde_json.specs.Find.{as_str}
@@ -13,6 +13,7 @@ use Rattle.dq_script.specs.Members.{both, three_members}
 use Rattle.dq_script.specs.Parts.{is_string, only_item, two_items, few_items}
 use Rattle.dq_script.specs.declared.extract.Extract.{Extract}
 
+-- the place of the first column of this name, from 0
 abbrev pub place_of : List (List ℕ) → List ℕ → Option ℕ
 place_of names name = position (λ other. bytes_eq other name) names
 

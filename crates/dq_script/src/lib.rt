@@ -17,6 +17,8 @@ mod members;
 mod parts;
 mod reading;
 mod session;
+#[cfg(test)]
+mod tests;
 mod zone;
 
 pub use fault::ScriptFault;

@@ -42,7 +42,11 @@ pub fn only_member<'a>(value: &'a Value, name: &str) -> Option<&'a Value>
 }
 
 // The members of an object of two, of these names.
-pub fn two_members<'a>(value: &'a Value, first: &str, second: &str) -> Option<(&'a Value, &'a Value)>
+pub fn two_members<'a>(
+    value: &'a Value,
+    first: &str,
+    second: &str,
+) -> Option<(&'a Value, &'a Value)>
     ensures { option_map (λ p. (view p.0.now, view p.1.now)) result ≡ two_members first.now second.now (view value.now) }
 {
     if !has_only(value, &[first, second]) {

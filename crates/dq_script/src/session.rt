@@ -50,11 +50,7 @@ fn read_batch(alloc: Global, extract: &Extract, value: &Value) -> Result<Query, 
 }
 
 // The one lane, of a publication and a batch.
-pub fn read_session(
-    alloc: Global,
-    extract: &Extract,
-    value: &Value,
-) -> Result<Session, ScriptFault>
+pub fn read_session(alloc: Global, extract: &Extract, value: &Value) -> Result<Session, ScriptFault>
     requires { length extract.now.schema.names ≤ 64 }
     ensures { Answers (session_of extract.now (view value.now)) result }
 {

@@ -9,7 +9,9 @@ use crate::extract::Extract;
 use crate::fault::ScriptFault;
 use crate::members::three_members;
 use crate::parts::{few_items, is_string, only_item, two_items};
-use dq_base::{Measure, Measures, Numbers, OrderKeys, Predicates, Query, Schema, Sort, Sorts, Text};
+use dq_base::{
+    Measure, Measures, Numbers, OrderKeys, Predicates, Query, Schema, Sort, Sorts, Text,
+};
 use serde_json::Value;
 use std::alloc::Global;
 

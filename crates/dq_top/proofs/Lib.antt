@@ -1,3 +1,4 @@
 pub mod Columns
+pub mod Fine
 pub mod First
 pub mod Outcomes

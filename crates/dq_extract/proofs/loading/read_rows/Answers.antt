@@ -10,10 +10,10 @@ returns-in-Err-clause-rows c =
     let columns : c.len-columns.result ≡ length c.args.schema.now.names = c.len-columns.ensures ∙ ap length c.names.ensures.names in
     let wide : length (fields_of c.current-row.result.now) ≡ length c.args.schema.now.names = omega arith in
     let room : (length c.loop-rows.rows + 1) * length c.args.schema.now.names ≤ c.args.room =
-        omega (arith, inv.cells, inv.within, ap (λ n. (length c.loop-rows.rows + 1) * n) columns) in
+    omega (arith, inv.cells, inv.within, ap (λ n. (length c.loop-rows.rows + 1) * n) columns) in
     let row = row_next c.args.schema.now c.args.room (length c.loop-rows.rows + 1) _ c.loop-rows.rows c.loop-rows.records.left c.next.new.self.left
-        c.next.new.self.fields (fields_of c.current-row.result.now) c.as_slice.result.now inv.so_far next c.current-row.ensures
-        (c.as_slice.ensures ∙ c.sorts.ensures.sorts) wide room in
+    c.next.new.self.fields (fields_of c.current-row.result.now) c.as_slice.result.now inv.so_far next c.current-row.ensures
+    (c.as_slice.ensures ∙ c.sorts.ensures.sorts) wide room in
     Answers-part _ _ _ (next_fault _ c.loop-rows.rows _ _ row) (c.in-Err.ensures (length c.loop-rows.rows + 1))
 
 pub loop-rows-preserved : goal.loop-rows-preserved
@@ -23,10 +23,10 @@ loop-rows-preserved c =
     let columns : c.len-columns.result ≡ length c.args.schema.now.names = c.len-columns.ensures ∙ ap length c.names.ensures.names in
     let wide : length (fields_of c.current-row.result.now) ≡ length c.args.schema.now.names = omega arith in
     let room : (length c.loop-rows.rows + 1) * length c.args.schema.now.names ≤ c.args.room =
-        omega (arith, inv.cells, inv.within, ap (λ n. (length c.loop-rows.rows + 1) * n) columns) in
+    omega (arith, inv.cells, inv.within, ap (λ n. (length c.loop-rows.rows + 1) * n) columns) in
     let row = row_next c.args.schema.now c.args.room (length c.loop-rows.rows + 1) _ c.loop-rows.rows c.loop-rows.records.left c.next.new.self.left
-        c.next.new.self.fields (fields_of c.current-row.result.now) c.as_slice.result.now inv.so_far next c.current-row.ensures
-        (c.as_slice.ensures ∙ c.sorts.ensures.sorts) wide room in
+    c.next.new.self.fields (fields_of c.current-row.result.now) c.as_slice.result.now inv.so_far next c.current-row.ensures
+    (c.as_slice.ensures ∙ c.sorts.ensures.sorts) wide room in
     let longer : length c.push.new.self ≡ length c.loop-rows.rows + 1 = ap length c.in_ok-push.ensures.ok ∙ length-append c.loop-rows.rows (c.in-Ok.values ∷ []) in
     record {
       so_far = row_joins c.args.schema.now c.args.room _ c.loop-rows.rows c.push.new.self c.in-Ok.values _ c.next.new.self.left row

@@ -17,5 +17,5 @@ returns c = λ rows e.
     (c.in_ok-fill.ensures ∙ ap (λ dims. key_of dims c.args.row.now) c.as_slice.ensures) e
     (record {
       there = c.in_ok-add_row.ensures.there;
-      absent = λ n. c.in_ok-add_row.ensures.absent n ∙ ap (λ ms. insert_entry key_cmp c.args.groups.now.entries c.fill.new.buffer (map (added c.args.row.now) (map (tally_of []) ms))) c.as_slice-2.ensures
+      absent = λ n. c.in_ok-add_row.ensures.absent n ∙ ap (λ ms. insert_entry key_cmp c.args.groups.now.entries c.fill.new.buffer (map (added c.args.row.now) (map (tally_of []) ms))) c.as_slice-2.ensures;
     })

@@ -1,5 +1,4 @@
-use Rattle.std.proofs.Common.{arith, [], ◌<◌, ◌^◌, ◌≡◌, map, sym, subst, List, ℕ}
-use Rattle.std.specs.List.{All}
+use Rattle.std.proofs.Common.{arith, [], ◌<◌, ◌^◌}
 use Rattle.dq_fold.specs.Tallies.{count_in, tally_of}
 use Rattle.dq_fold.specs.declared.tally.Tally.{Tally}
 use Rattle.dq_fold.proofs.Tallied.{all_map, count_small}

@@ -1,6 +1,5 @@
-use Rattle.std.proofs.Common.{◌≡◌, length, drop}
+use Rattle.std.proofs.Common.{drop}
 use Rattle.serde_json.specs.View.{items_view}
-use Rattle.dq_script.specs.Columns.{columns_in}
 use Rattle.dq_script.proofs.Columned.{ReadSo}
 use Rattle.dq_script.proofs.columns.read_all.Given as goal
 

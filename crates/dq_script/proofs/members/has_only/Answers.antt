@@ -1,4 +1,4 @@
-use Rattle.std.proofs.Common.{sym, ◌∙◌, ap, map}
+use Rattle.std.proofs.Common.{◌∙◌, ap, map}
 use Rattle.dq_script.specs.Members.{object_among}
 use Rattle.dq_script.proofs.Among.{list_all-all_among}
 use Rattle.dq_script.proofs.members.has_only.Goals as goal

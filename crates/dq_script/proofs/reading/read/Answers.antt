@@ -16,7 +16,7 @@ returns-in-Ok c =
       script = script;
       fits = answers_so IsScript (first_form c.args.bytes.now) c.read_value.result script (λ s is. (first_form-IsKept c.args.bytes.now s is).fits);
       valid = answers_so (λ s. all_valid s ≡ true) (first_form c.args.bytes.now) c.read_value.result script (λ s is. (first_form-IsKept c.args.bytes.now s is).valid);
-      shape = answers_so IsFirst (first_form c.args.bytes.now) c.read_value.result script (λ s is. (first_form-IsKept c.args.bytes.now s is).shape)
+      shape = answers_so IsFirst (first_form c.args.bytes.now) c.read_value.result script (λ s is. (first_form-IsKept c.args.bytes.now s is).shape);
     }
 
 pub returns-else-is_memory-clause-script : goal.returns-else-is_memory-clause-script

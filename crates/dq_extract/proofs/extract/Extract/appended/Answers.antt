@@ -7,6 +7,6 @@ use Rattle.dq_extract.proofs.extract.Extract.appended.Goals as goal
 pub invariant_of-result : goal.invariant_of-result
 invariant_of-result c =
     let next : c.push.new.self ≡ c.self.inside.segments ++ arc_value c.args.segment.now ∷ [] =
-        cc (c.in_ok-push.ensures.ok, c.in_ok-segments.ensures, c.in_ok-try_clone.ensures) in
+    cc (c.in_ok-push.ensures.ok, c.in_ok-segments.ensures, c.in_ok-try_clone.ensures) in
     let whole : IsVersion (arc_value c.args.segment.now) = search (rules, c.count-count.ensures.version) in
     IsExtract-next _ _ _ _ _ _ c.self.invariant c.self.view_is whole c.requires.heading c.requires.cells c.requires.rows c.in_ok-schema.ensures next

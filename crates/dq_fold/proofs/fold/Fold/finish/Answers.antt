@@ -1,5 +1,5 @@
 use Rattle.std.proofs.Common.{◌≡◌, ◌≤◌, ◌^◌, length, ap, sym, ◌∙◌, subst, arith}
-use Rattle.dq_fold.specs.Folding.{AllSmall, groups_of}
+use Rattle.dq_fold.specs.Folding.{AllSmall}
 use Rattle.dq_fold.proofs.Grouped.{answered, groups_small}
 use Rattle.dq_fold.proofs.fold.Fold.finish.Goals as goal
 

@@ -1,0 +1,99 @@
+ghost use Rattle.std.specs.Arc.{arc_value};
+ghost use Rattle.std.specs.Prelude.{◌≡◌, ◌⊎◌, ◌↔◌, ◌≤◌, ℕ, List as ListOf, true, false, IfSome, Some, None};
+ghost use Rattle.dq_extract.specs.Loads.{LoadedFiles};
+ghost use Rattle.dq_outside.specs.Causes.{Rose};
+ghost use Rattle.dq_outside.specs.Reads.{Files};
+ghost use Rattle.dq_report.specs.Report.{report_text};
+ghost use Rattle.dq_script.specs.First.{IsFirst, all_valid};
+ghost use Rattle.dq_top.specs.Loading.{Loads, loaded_of};
+ghost use Rattle.dq_top.specs.Outcomes.{AnswersFiles, AreRight, IsOfPlay, IsWhole, ReadCause, Writes, any_wanting, loaded_files, status_of};
+ghost use Rattle.dq_top.specs.Words.{script_name};
+
+use crate::fault::Fault;
+use crate::loading::load_script;
+use crate::outcome::{Outcome, refused, status, told_of};
+use crate::playing::{Played, play};
+use crate::refusals;
+use crate::words::find_script;
+use dq_base::{Memory, Texts};
+use dq_extract::Loaded;
+use dq_outside::{Folder, Sink};
+use dq_report::write;
+use std::alloc::Global;
+use std::sync::Arc;
+
+/// Plays what was loaded, and writes the report.
+fn run<S: Sink>(alloc: Global, loaded: Loaded, sink: &mut S) -> Outcome
+    requires first { IsFirst loaded.script }
+    requires valid { all_valid loaded.script ≡ true }
+    ensures status { result.status ≡ status_of result.told result.results }
+    ensures told { IsOfPlay result.told }
+    ensures whole { IsWhole result.told (loaded_files result.loaded) }
+    ensures loaded { IfSome result.loaded (λ owner. arc_value owner ≡ loaded) }
+    ensures right { AreRight (loaded_files result.loaded) result.journal.entries result.results }
+    ensures writes { Writes (S.written sink.old) (S.written sink.new) (report_text result.journal.entries result.results) (loaded_files result.loaded) result.told }
+    ensures later { S.faults sink.old ≤ S.faults sink.new }
+    ensures cause { result.told ≡ Some Fault.Write → Rose (S.faults sink.old) (S.faults sink.new) }
+    ensures served { result.told ≡ None → any_wanting result.results ≡ false }
+    ensures fine { result.told ≡ None → result.status ≡ 0 }
+{
+    let Ok(played) = play(alloc, &loaded) else {
+        return refused(alloc, Fault::Memory);
+    };
+    let Played { journal, results } = played;
+    let Ok(owner) = Arc::new(alloc, loaded) else {
+        return refused(alloc, Fault::Memory);
+    };
+    let wanting = refusals::any_wanting(&results);
+    let told = told_of(wanting, write(alloc, &journal, &results, sink));
+    Outcome {
+        status: status(&told, &results),
+        told,
+        loaded: Some(owner),
+        journal,
+        results,
+    }
+}
+
+/// Plays the script that the words name, over the files of a folder, and writes the report to a sink.
+///
+/// The words are `rehearse` and the script's name. It always returns. The cost is linear in the bytes that are read and that
+/// are written, and that of the answers: for each zone its rows times the logarithm of its groups.
+pub fn rehearse<F: Folder, S: Sink>(
+    alloc: Global,
+    words: &Texts,
+    folder: &mut F,
+    sink: &mut S,
+) -> Outcome
+    // The status is that of what is told, or of what was refused; nothing was refused for memory where nothing is told.
+    ensures status { result.status ≡ status_of result.told result.results }
+    ensures served { result.told ≡ None → any_wanting result.results ≡ false }
+
+    // Where the run began, the results are right for what was loaded and for the journal; else there are none.
+    ensures whole { IsWhole result.told (loaded_files result.loaded) }
+    ensures right { AreRight (loaded_files result.loaded) result.journal.entries result.results }
+
+    // What was loaded is what the files load to, and what was written is the report, or a prefix of it.
+    ensures loaded { IfSome result.loaded (λ owner. IfSome (F.files folder.old) (λ files. IfSome (script_name words.now) (λ name. loaded_of files name ≡ Loads (arc_value owner)))) }
+    ensures writes { Writes (S.written sink.old) (S.written sink.new) (report_text result.journal.entries result.results) (loaded_files result.loaded) result.told }
+
+    // When each answer comes.
+    ensures usage { (result.told ≡ Some Fault.Usage) ↔ (script_name words.now ≡ None) }
+    ensures files { IfSome (F.files folder.old) (λ files. IfSome (script_name words.now) (λ name. AnswersFiles files name result.told)) }
+    ensures read { ReadCause (F.faults folder.old) (F.faults folder.new) (F.last_fault folder.new) result.told }
+    ensures write { result.told ≡ Some Fault.Write → Rose (S.faults sink.old) (S.faults sink.new) }
+
+    // Where the files load and no count rises, all is answered, but for want of memory.
+    ensures complete { (name : ListOf ℕ) (files : Files) (l : LoadedFiles)
+        → script_name words.now ≡ Some name → F.files folder.old ≡ Some files → loaded_of files name ≡ Loads l
+        → ¬ Rose (F.faults folder.old) (F.faults folder.new) → ¬ Rose (S.faults sink.old) (S.faults sink.new)
+        → (result.status ≡ 0) ⊎ (result.status ≡ 6) }
+{
+    let Some(name) = find_script(words.as_slice()) else {
+        return refused(alloc, Fault::Usage);
+    };
+    match load_script(alloc, name, folder) {
+        Ok(loaded) => run(alloc, loaded, sink),
+        Err(fault) => refused(alloc, fault),
+    }
+}
