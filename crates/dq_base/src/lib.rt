@@ -42,3 +42,6 @@ pub use schema::{Schema, Schemas, Sort, Sorts};
 pub use script::{Fails, FailsList, How, LaneSteps, Script, Step, Steps};
 pub use sets::{place_of, put};
 pub use value::{Value, Values};
+
+#[cfg(test)]
+mod tests;
