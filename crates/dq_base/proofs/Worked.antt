@@ -1,10 +1,9 @@
 -- Worked examples of the definitions, each by computing.
-use Rattle.std.proofs.Common.{◌≡◌, ℕ, ℤ, pos, Bool, true, false, List, [], ◌∷◌, Option, Some, None, refl, replicate}
-use Rattle.dq_base.specs.Answers.{answer, plain}
-use Rattle.dq_base.specs.Batches.{roles, groups, Group}
+use Rattle.std.proofs.Common.{◌≡◌, ℕ, pos, true, false, List, [], ◌∷◌, Some, None, refl, replicate}
+use Rattle.dq_base.specs.Answers.{answer}
+use Rattle.dq_base.specs.Batches.{roles, groups}
 use Rattle.dq_base.specs.Canonical.{canonical}
 use Rattle.dq_base.specs.Covering.{covers}
-use Rattle.dq_base.specs.Ratios.{Fraction}
 use Rattle.dq_base.specs.Headings.{Heading}
 use Rattle.dq_base.specs.Validity.{invalid_by}
 use Rattle.dq_base.specs.declared.value.Value.{Value}
@@ -12,15 +11,12 @@ use Rattle.dq_base.specs.declared.value.Value.TheVariants as value
 use Rattle.dq_base.specs.declared.cell.Cell.{Cell}
 use Rattle.dq_base.specs.declared.cell.Cell.TheVariants as cell
 use Rattle.dq_base.specs.declared.schema.Sort.TheVariants as sort
-use Rattle.dq_base.specs.declared.predicate.Test.{Test}
-use Rattle.dq_base.specs.declared.predicate.Test.TheVariants.{Among, Except, Between}
+use Rattle.dq_base.specs.declared.predicate.Test.TheVariants.{Among, Between}
 use Rattle.dq_base.specs.declared.predicate.Predicate.{Predicate}
 use Rattle.dq_base.specs.declared.query.Measure.{Measure}
-use Rattle.dq_base.specs.declared.query.Measure.TheVariants.{Rows, Count, Sum, Min, Max, Distinct, Avg}
-use Rattle.dq_base.specs.declared.query.OrderKey.{OrderKey}
+use Rattle.dq_base.specs.declared.query.Measure.TheVariants.{Rows, Count, Sum, Max, Distinct, Avg}
 use Rattle.dq_base.specs.declared.query.Query.{Query}
 use Rattle.dq_base.specs.declared.invalid.Invalid.TheVariants as invalid
-use Rattle.dq_base.specs.declared.canon.Role.{Role}
 use Rattle.dq_base.specs.declared.canon.Role.TheVariants.{Remote, Local}
 
 abbrev east : Value

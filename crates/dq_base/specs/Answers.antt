@@ -7,7 +7,6 @@ use Rattle.std.specs.Ordering.{is_lt, is_gt, is_eq, ordering_then, ordering_reve
 use Rattle.std.specs.Cmp.Lexicographic.{slice_cmp}
 use Rattle.dq_base.specs.Filters.{value_at, kept}
 use Rattle.dq_base.specs.Orders.{value_cmp, key_cmp, cell_cmp}
-use Rattle.dq_base.specs.Ratios.{Fraction}
 use Rattle.dq_base.specs.Sets.{set_of, ascending}
 use Rattle.dq_base.specs.declared.value.Value.{Value}
 use Rattle.dq_base.specs.declared.value.Value.TheVariants as value

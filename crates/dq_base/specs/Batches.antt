@@ -1,7 +1,6 @@
 -- How the queries of a batch are answered together.
-use Rattle.std.specs.Prelude.{ℕ, zero, suc, ◌+◌, Bool, true, false, ◌||◌, ◌&&◌, not, nat_lt, nat_eq, List, [], ◌∷◌, ◌++◌, map, length, slice_get, Option, Some, None, if◌then◌else◌}
-use Rattle.std.specs.List.{list_any, list_all, filter, find, fold, enumerate_from}
-use Rattle.std.specs.Option.{unwrap_or}
+use Rattle.std.specs.Prelude.{ℕ, zero, suc, Bool, ◌||◌, ◌&&◌, not, nat_lt, nat_eq, List, [], ◌∷◌, ◌++◌, map, length, Option, Some, None, if◌then◌else◌}
+use Rattle.std.specs.List.{list_any, filter, find, fold, enumerate_from}
 use Rattle.dq_base.specs.Covering.{covers, measure_eq, predicate_eq, lists_eq, same_dims}
 use Rattle.dq_base.specs.declared.query.Measure.{Measure}
 use Rattle.dq_base.specs.declared.query.Query.{Query}

@@ -1,8 +1,7 @@
 -- Which answers an answer can be computed from.
-use Rattle.std.specs.Prelude.{◌≡◌, ℕ, ℤ, Bool, true, false, ◌||◌, ◌&&◌, not, nat_eq, int_le, ◌==◌, List, [], ◌∷◌, Option, Some, None, is_none}
+use Rattle.std.specs.Prelude.{ℕ, ℤ, Bool, true, false, ◌||◌, ◌&&◌, not, nat_eq, int_le, List, [], ◌∷◌, Option, Some, None, is_none}
 use Rattle.std.specs.List.{list_any, list_all}
-use Rattle.std.specs.Ordering.{is_eq, nat_cmp}
-use Rattle.std.specs.Cmp.Lexicographic.{slice_cmp}
+use Rattle.std.specs.Ordering.{is_eq}
 use Rattle.dq_base.specs.Orders.{value_cmp}
 use Rattle.dq_base.specs.Filters.{lies_between}
 use Rattle.dq_base.specs.Canonical.{predicate_cmp}

@@ -7,7 +7,6 @@ use Rattle.dq_base.specs.declared.value.Value.{Value}
 use Rattle.dq_base.specs.declared.value.Value.TheVariants as value
 use Rattle.dq_base.specs.declared.predicate.Test.{Test}
 use Rattle.dq_base.specs.declared.predicate.Test.TheVariants.{Among, Except, Between}
-use Rattle.dq_base.specs.declared.predicate.Predicate.{Predicate}
 use Rattle.dq_base.specs.declared.query.Query.{Query}
 
 -- the row's value in a column

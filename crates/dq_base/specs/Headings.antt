@@ -1,5 +1,5 @@
 -- What a schema says.
-use Rattle.std.specs.Prelude.{◌≡◌, ℕ, List, length}
+use Rattle.std.specs.Prelude.{ℕ, List}
 use Rattle.dq_base.specs.declared.schema.Sort.{Sort}
 
 -- the columns' names, and what each holds

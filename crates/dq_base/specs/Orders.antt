@@ -1,8 +1,8 @@
 -- The order of values and of cells.
-use Rattle.std.specs.Prelude.{ℕ, ◌*ℤ◌, pos, List, Option, Some, None}
+use Rattle.std.specs.Prelude.{◌*ℤ◌, pos, List}
 use Rattle.std.specs.declared.cmp.Ordering.{Ordering}
 use Rattle.std.specs.declared.cmp.Ordering.TheVariants.{Less, Equal, Greater}
-use Rattle.std.specs.Ordering.{nat_cmp, int_cmp, ordering_then}
+use Rattle.std.specs.Ordering.{nat_cmp, int_cmp}
 use Rattle.std.specs.Cmp.Lexicographic.{slice_cmp}
 use Rattle.dq_base.specs.Ratios.{Fraction, count_of}
 use Rattle.dq_base.specs.declared.value.Value.{Value}

@@ -1,8 +1,8 @@
 -- The order of predicates is total.
-use Rattle.std.specs.Prelude.{◌≡◌, ℤ, refl, List, Option}
+use Rattle.std.specs.Prelude.{◌≡◌, ℤ, refl, Option}
 use Rattle.std.specs.declared.cmp.Ordering.{Ordering}
-use Rattle.std.specs.declared.cmp.Ordering.TheVariants.{Less, Equal, Greater}
-use Rattle.std.specs.Ordering.{nat_cmp, int_cmp, ordering_reverse, on, then_cmp}
+use Rattle.std.specs.declared.cmp.Ordering.TheVariants.{Less, Equal}
+use Rattle.std.specs.Ordering.{int_cmp, ordering_reverse, on, then_cmp}
 use Rattle.std.specs.Option.{option_cmp}
 use Rattle.std.specs.Cmp.{IsTotalOrder}
 use Rattle.std.specs.Cmp.Lexicographic.{slice_cmp, options_total}
@@ -10,10 +10,8 @@ use Rattle.std.proofs.lemmas.Cmp.{nat_cmp_total, int_cmp_total, lists_total, on_
 use Rattle.dq_base.specs.Orders.{value_cmp}
 use Rattle.dq_base.specs.Canonical.{test_cmp, predicate_cmp}
 use Rattle.dq_base.specs.ValueOrder.{value_cmp_total}
-use Rattle.dq_base.specs.declared.value.Value.{Value}
 use Rattle.dq_base.specs.declared.predicate.Test.{Test}
 use Rattle.dq_base.specs.declared.predicate.Test.TheVariants.{Among, Except, Between}
-use Rattle.dq_base.specs.declared.predicate.Predicate.{Predicate}
 
 lists_of_values_total : IsTotalOrder (slice_cmp value_cmp)
 lists_of_values_total = lists_total value_cmp_total

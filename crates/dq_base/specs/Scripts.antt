@@ -1,5 +1,5 @@
 -- What a script says, and how large it may be.
-use Rattle.std.specs.Prelude.{◌≡◌, ℕ, ◌-◌, ◌<◌, ◌≤◌, Bool, true, ◌&&◌, nat_lt, nat_le, nat_eq, List, [], ◌∷◌, length, sum_by, slice_get, Option, Some, None, option_and_then, if◌then◌else◌}
+use Rattle.std.specs.Prelude.{◌≡◌, ℕ, ◌-◌, ◌≤◌, Bool, true, ◌&&◌, nat_lt, nat_le, nat_eq, List, [], ◌∷◌, length, sum_by, slice_get, Option, None, option_and_then, if◌then◌else◌}
 use Rattle.std.specs.List.{list_all, flat_map}
 use Rattle.dq_base.specs.Headings.{Heading}
 use Rattle.dq_base.specs.Limits.{most_extracts, most_columns, most_lanes, most_steps, most_zones, most_all_zones, most_turns, most_faults, most_kept}

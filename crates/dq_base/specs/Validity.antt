@@ -1,5 +1,5 @@
 -- Which queries are valid.
-use Rattle.std.specs.Prelude.{ℕ, zero, suc, ◌+◌, Bool, true, false, ◌||◌, ◌&&◌, not, nat_lt, nat_le, nat_eq, ◌==◌, List, [], ◌∷◌, length, slice_get, Option, Some, None, if◌then◌else◌, is_none}
+use Rattle.std.specs.Prelude.{ℕ, ◌+◌, Bool, true, false, ◌||◌, ◌&&◌, not, nat_lt, nat_le, nat_eq, ◌==◌, List, [], ◌∷◌, length, slice_get, Option, Some, None, if◌then◌else◌}
 use Rattle.std.specs.List.{list_any, list_all}
 use Rattle.dq_base.specs.Headings.{Heading}
 use Rattle.dq_base.specs.declared.value.Value.{Value}
@@ -8,10 +8,8 @@ use Rattle.dq_base.specs.declared.schema.Sort.{Sort}
 use Rattle.dq_base.specs.declared.schema.Sort.TheVariants as sort
 use Rattle.dq_base.specs.declared.predicate.Test.{Test}
 use Rattle.dq_base.specs.declared.predicate.Test.TheVariants.{Among, Except, Between}
-use Rattle.dq_base.specs.declared.predicate.Predicate.{Predicate}
 use Rattle.dq_base.specs.declared.query.Measure.{Measure}
 use Rattle.dq_base.specs.declared.query.Measure.TheVariants.{Rows, Count, Sum, Min, Max, Distinct, Avg}
-use Rattle.dq_base.specs.declared.query.OrderKey.{OrderKey}
 use Rattle.dq_base.specs.declared.query.Query.{Query}
 use Rattle.dq_base.specs.declared.invalid.Invalid.{Invalid}
 use Rattle.dq_base.specs.declared.invalid.Invalid.TheVariants as invalid

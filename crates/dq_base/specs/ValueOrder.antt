@@ -1,11 +1,8 @@
 -- The order of values is total, and ties only equal values.
-use Rattle.std.specs.Prelude.{◌≡◌, ℕ, Bool, true, false, refl, List}
-use Rattle.std.proofs.Common.{sym, ◌∙◌, ap}
-use Rattle.std.specs.declared.cmp.Ordering.{Ordering}
-use Rattle.std.specs.declared.cmp.Ordering.TheVariants.{Less, Equal, Greater}
-use Rattle.std.specs.Ordering.{nat_cmp, int_cmp, ordering_reverse}
+use Rattle.std.specs.Prelude.{◌≡◌, refl}
+use Rattle.std.specs.declared.cmp.Ordering.TheVariants.{Less, Equal}
+use Rattle.std.specs.Ordering.{ordering_reverse}
 use Rattle.std.specs.Cmp.{IsTotalOrder}
-use Rattle.std.specs.Cmp.Lexicographic.{slice_cmp}
 use Rattle.std.proofs.lemmas.Cmp.{int_cmp_total, nat_list_cmp_total}
 use Rattle.dq_base.specs.Orders.{value_cmp}
 use Rattle.dq_base.specs.declared.value.Value.{Value}
