@@ -1,150 +1,210 @@
-ghost use Rattle.std.specs.Prelude.{◌≡◌, ◌<◌, IfOk, length};
+// What a file's rows are, against files written by hand, and each public call once.
+ghost use Rattle.std.specs.Prelude.{◌≡◌, ◌<◌, ◌≤◌, length};
+ghost use Rattle.dq_base.specs.Versions.{cells_of};
 
-use crate::{Extract, LoadFault, load};
-use dq_base::{Duplicate, List, Memory, Schema, Sort, Sorts, Text, Texts, Value, Values};
+use crate::{Extract, LoadFault, Segment, SegmentList, load};
+use dq_base::{Duplicate, List, Schema, Sort, Sorts, Text, Texts, Value, Values};
 use std::alloc::Global;
+use std::process::Abort;
 use std::sync::Arc;
 use std::test::Fail;
 
-// A text column and two whole ones.
-fn three_columns(alloc: Global) -> Result<Schema, Memory>
-    ensures { IfOk result (λ schema. 0 < length schema.names) }
+fn word(rt: &impl Abort, alloc: Global, bytes: &[u8]) -> Text {
+    Text::copy_of(alloc, bytes).ok().expect(rt, "memory")
+}
+
+fn three_names(rt: &impl Abort, alloc: Global) -> Texts
+    ensures { length result ≡ 3 }
 {
     let mut names: Texts = List::new(alloc);
-    names.push(Text::copy_of(alloc, b"region")?)?;
-    names.push(Text::copy_of(alloc, b"year")?)?;
-    names.push(Text::copy_of(alloc, b"amount")?)?;
-    let mut sorts: Sorts = List::new(alloc);
-    sorts.push(Sort::Word)?;
-    sorts.push(Sort::Whole)?;
-    sorts.push(Sort::Whole)?;
-    Ok(Schema::new(names, sorts))
+    names.push(word(rt, alloc, b"region")).ok().expect(rt, "memory");
+    names.push(word(rt, alloc, b"year")).ok().expect(rt, "memory");
+    names.push(word(rt, alloc, b"amount")).ok().expect(rt, "memory");
+    assert_eq!(rt; names.len(), 3);
+    names
 }
 
-fn whole(number: Option<i64>) -> Value {
-    match number {
-        None => Value::Null,
-        Some(n) => Value::Int(n),
-    }
-}
-
-// A row; an empty text stands for null.
-fn row_of(
-    alloc: Global,
-    text: &[u8],
-    year: Option<i64>,
-    amount: Option<i64>,
-) -> Result<Values, Memory> {
-    let mut row = List::new(alloc);
-    if text.is_empty() {
-        row.push(Value::Null)?;
-    } else {
-        row.push(Value::Word(Text::copy_of(alloc, text)?))?;
-    }
-    row.push(whole(year))?;
-    row.push(whole(amount))?;
-    Ok(row)
-}
-
-fn five_rows(alloc: Global) -> Result<List<Values>, Memory> {
-    let mut rows = List::new(alloc);
-    rows.push(row_of(alloc, b"East", Some(2020), Some(10))?)?;
-    rows.push(row_of(alloc, b"East", Some(2021), Some(5))?)?;
-    rows.push(row_of(alloc, b"West", Some(2020), Some(7))?)?;
-    rows.push(row_of(alloc, b"West", Some(2021), None)?)?;
-    rows.push(row_of(alloc, b"", Some(2021), Some(4))?)?;
-    Ok(rows)
-}
-
-fn quoted_rows(alloc: Global) -> Result<List<Values>, Memory> {
-    let mut rows = List::new(alloc);
-    rows.push(row_of(alloc, b"a,b", Some(1), Some(-2))?)?;
-    rows.push(row_of(alloc, b"say \"hi\"", Some(3), Some(7))?)?;
-    rows.push(row_of(alloc, b"two\nlines", None, Some(8))?)?;
-    Ok(rows)
-}
-
-// Whether a file loads as these rows.
-fn loads_as(alloc: Global, schema: &Schema, bytes: &[u8], rows: &List<Values>) -> bool
-    requires { 0 < length schema.now.names }
+fn three_sorts(rt: &impl Abort, alloc: Global) -> Sorts
+    ensures { length result ≡ 3 }
 {
-    match load(alloc, schema, 8388608, bytes) {
-        Ok(segment) => segment.rows() == rows.as_slice(),
-        Err(_) => false,
-    }
+    let mut sorts: Sorts = List::new(alloc);
+    sorts.push(Sort::Word).ok().expect(rt, "memory");
+    sorts.push(Sort::Whole).ok().expect(rt, "memory");
+    sorts.push(Sort::Whole).ok().expect(rt, "memory");
+    assert_eq!(rt; sorts.len(), 3);
+    sorts
 }
 
-#[test]
-fn loads(rt: HostRuntime) -> Result<(), Fail> {
-    let alloc = rt.alloc();
-    let schema = three_columns(alloc)?;
-    let rows = five_rows(alloc)?;
-    let files: [&[u8]; 5] = [
-        b"region,year,amount\nEast,2020,10\nEast,2021,5\nWest,2020,7\nWest,2021,\n,2021,4\n",
-        b"\xEF\xBB\xBFregion,year,amount\nEast,2020,10\nEast,2021,5\nWest,2020,7\nWest,2021,\n,2021,4\n",
-        b"region,year,amount\r\nEast,2020,10\r\nEast,2021,5\r\nWest,2020,7\r\nWest,2021,\r\n,2021,4\r\n",
-        b"region,year,amount\nEast,2020,10\n\nEast,2021,5\nWest,2020,7\n\n\nWest,2021,\n,2021,4\n",
-        b"region,year,amount\nEast,2020,10\nEast,2021,5\nWest,2020,7\nWest,2021,\n,2021,4",
-    ];
-    for bytes in files {
-        assert!(rt; loads_as(alloc, &schema, bytes, &rows));
-    }
-    let quoted =
-        b"region,year,amount\n\"a,b\",1,-2\n\"say \"\"hi\"\"\",003,\"7\"\n\"two\nlines\",,8\n";
-    assert!(rt; loads_as(alloc, &schema, quoted, &quoted_rows(alloc)?));
-    Ok(())
+// A text column and two whole ones.
+fn three_columns(rt: &impl Abort, alloc: Global) -> Schema
+    ensures { 0 < length result.names }
+{
+    Schema::new(three_names(rt, alloc), three_sorts(rt, alloc))
 }
 
-#[test]
-fn refuses(rt: HostRuntime) -> Result<(), Fail> {
-    let alloc = rt.alloc();
-    let schema = three_columns(alloc)?;
-    let files: [&[u8]; 9] = [
-        b"",
-        b"region,year,sum\nEast,2020,10\n",
-        b"region,year\nEast,2020\n",
-        b"region,year,amount\nEast,2020,10\nEast,2021\n",
-        b"region,year,amount\nEast,2020,12x\n",
-        b"region,year,amount\nEast,2020,9223372036854775808\n",
-        b"region,year,amount\nEast,2020,+5\n",
-        b"region,year,amount\nEast,-,5\n",
-        b"region,year,amount\n\xFF,2020,5\n",
-    ];
-    for bytes in files {
-        assert!(rt;
-            matches!(
-                load(alloc, &schema, 8388608, bytes),
-                Err(LoadFault::Unbuilt)
-            )
-        );
-    }
-    let three_cells = b"region,year,amount\nEast,2020,10\n";
-    assert!(rt;
-        matches!(
-            load(alloc, &schema, 2, three_cells),
-            Err(LoadFault::Unbuilt)
-        )
-    );
-    assert!(rt; load(alloc, &schema, 3, three_cells).is_ok());
-    Ok(())
-}
-
-#[test]
-fn publishes(rt: HostRuntime) -> Result<(), Fail> {
-    let alloc = rt.alloc();
-    let schema = three_columns(alloc)?;
-    let Ok(segment) = load(alloc, &schema, 3, b"region,year,amount\nEast,2020,10\n") else {
-        assert!(rt; false, "not loaded");
-        return Ok(());
+fn spell_value(rt: &impl Abort, alloc: Global, line: &mut Text, value: &Value) {
+    let spelled = match value {
+        Value::Null => line.append(b"-"),
+        Value::Int(number) => {
+            let digits = format!(in alloc; "{number}").ok().expect(rt, "memory");
+            line.append(digits.as_bytes())
+        }
+        Value::Word(text) => line.append(text.bytes()),
     };
+    assert!(rt; spelled.is_ok());
+}
+
+fn spell_row(rt: &impl Abort, alloc: Global, line: &mut Text, row: &Values) {
+    for value in row.as_slice() {
+        spell_value(rt, alloc, line, value);
+        assert!(rt; line.append(b"|").is_ok());
+    }
+    assert!(rt; line.append(b";").is_ok());
+}
+
+fn spell_rows(rt: &impl Abort, alloc: Global, rows: &[Values]) -> Text {
+    let mut line = Text::new(alloc);
+    for row in rows {
+        spell_row(rt, alloc, &mut line, row);
+    }
+    line
+}
+
+/// A file has these rows.
+fn check_rows(rt: &impl Abort, alloc: Global, file: &str, want: &str) {
+    let schema = three_columns(rt, alloc);
+    let segment = load(alloc, &schema, 8388608, file.as_bytes())
+        .ok()
+        .expect(rt, "loaded");
+    let line = spell_rows(rt, alloc, segment.rows());
+    assert_eq!(rt; line.bytes(), want.as_bytes(), "{file}");
+}
+
+/// A file has a fault, with room for so many cells.
+fn check_fault(rt: &impl Abort, alloc: Global, room: u64, file: &[u8])
+    requires { room ≤ 8388608 }
+{
+    let schema = three_columns(rt, alloc);
+    let loaded = load(alloc, &schema, room, file);
+    assert!(rt; matches!(loaded, Err(LoadFault::Unbuilt)));
+}
+
+const FIVE: &str = "East|2020|10|;East|2021|5|;West|2020|7|;West|2021|-|;-|2021|4|;";
+
+#[test]
+fn rows_are_read(rt: HostRuntime) {
+    let alloc = rt.alloc();
+    check_rows(
+        &rt,
+        alloc,
+        "region,year,amount\nEast,2020,10\nEast,2021,5\nWest,2020,7\nWest,2021,\n,2021,4\n",
+        FIVE,
+    );
+    check_rows(
+        &rt,
+        alloc,
+        "\u{FEFF}region,year,amount\nEast,2020,10\nEast,2021,5\nWest,2020,7\nWest,2021,\n,2021,4\n",
+        FIVE,
+    );
+    check_rows(
+        &rt,
+        alloc,
+        "region,year,amount\n\"a,b\",1,-2\n\"say \"\"hi\"\"\",003,\"7\"\n\"two\nlines\",,8\n",
+        "a,b|1|-2|;say \"hi\"|3|7|;two\nlines|-|8|;",
+    );
+}
+
+#[test]
+fn line_ends_are_read(rt: HostRuntime) {
+    let alloc = rt.alloc();
+    check_rows(
+        &rt,
+        alloc,
+        "region,year,amount\r\nEast,2020,10\r\nEast,2021,5\r\nWest,2020,7\r\nWest,2021,\r\n,2021,4\r\n",
+        FIVE,
+    );
+    check_rows(
+        &rt,
+        alloc,
+        "region,year,amount\nEast,2020,10\n\nEast,2021,5\nWest,2020,7\n\n\nWest,2021,\n,2021,4\n",
+        FIVE,
+    );
+    check_rows(
+        &rt,
+        alloc,
+        "region,year,amount\nEast,2020,10\nEast,2021,5\nWest,2020,7\nWest,2021,\n,2021,4",
+        FIVE,
+    );
+}
+
+#[test]
+fn faults_of_records(rt: HostRuntime) {
+    let alloc = rt.alloc();
+    check_fault(&rt, alloc, 8388608, b"");
+    check_fault(&rt, alloc, 8388608, b"region,year,sum\nEast,2020,10\n");
+    check_fault(&rt, alloc, 8388608, b"region,year\nEast,2020\n");
+    check_fault(&rt, alloc, 8388608, b"region,year,amount\nEast,2021\n");
+    check_fault(&rt, alloc, 2, b"region,year,amount\nEast,2020,10\n");
+}
+
+#[test]
+fn faults_of_fields(rt: HostRuntime) {
+    let alloc = rt.alloc();
+    check_fault(&rt, alloc, 8388608, b"region,year,amount\nEast,2020,12x\n");
+    check_fault(
+        &rt,
+        alloc,
+        8388608,
+        b"region,year,amount\nEast,2020,9223372036854775808\n",
+    );
+    check_fault(&rt, alloc, 8388608, b"region,year,amount\nEast,2020,+5\n");
+    check_fault(&rt, alloc, 8388608, b"region,year,amount\nEast,-,5\n");
+    check_fault(&rt, alloc, 8388608, b"region,year,amount\n\xFF,2020,5\n");
+}
+
+// A segment of one row.
+fn one_row(rt: &impl Abort, alloc: Global, schema: &Schema) -> Segment
+    requires { 0 < length schema.now.names }
+    ensures heading { result.heading ≡ schema.now }
+    ensures cells { cells_of result ≤ 3 }
+    ensures rows { length result.rows ≡ 1 }
+{
+    let segment = load(alloc, schema, 3, b"region,year,amount\nEast,2020,10\n")
+        .ok()
+        .expect(rt, "loaded");
     assert_eq!(rt; segment.count(), 1);
-    assert!(rt; segment.row(alloc, 0)? == row_of(alloc, b"East", Some(2020), Some(10))?);
-    let owner = Arc::new(alloc, segment)?;
+    segment
+}
+
+#[test]
+fn rows_are_copied(rt: HostRuntime) -> Result<(), Fail> {
+    let alloc = rt.alloc();
+    let schema = three_columns(&rt, alloc);
+    let segment = one_row(&rt, alloc, &schema);
+    let mut line = Text::new(alloc);
+    spell_row(&rt, alloc, &mut line, &segment.row(alloc, 0)?);
+    assert_eq!(rt; line.bytes(), b"East|2020|10|;".as_slice());
+    assert_eq!(rt; segment.schema().names().len(), 3);
+    Ok(())
+}
+
+/// An extract has so many segments of one row.
+fn check_segments(rt: &impl Abort, extract: &Extract, want: u64) {
+    let segments: &SegmentList = extract.segments();
+    assert_eq!(rt; segments.len(), want);
+    assert_eq!(rt; extract.schema().names().len(), 3);
+}
+
+#[test]
+fn extracts_share_segments(rt: HostRuntime) -> Result<(), Fail> {
+    let alloc = rt.alloc();
+    let schema = three_columns(&rt, alloc);
+    let owner = Arc::new(alloc, one_row(&rt, alloc, &schema))?;
     let empty = Extract::empty(alloc, schema.duplicate(alloc)?);
     let replaced = empty.replaced(alloc, &owner)?;
-    let appended = empty.appended(alloc, &owner)?;
-    assert_eq!(rt; empty.segments().len(), 0);
-    assert_eq!(rt; replaced.segments().len(), 1);
-    assert_eq!(rt; appended.segments().len(), 1);
+    let appended = replaced.appended(alloc, &owner)?;
+    check_segments(&rt, &empty, 0);
+    check_segments(&rt, &replaced, 1);
+    check_segments(&rt, &appended, 2);
     Ok(())
 }

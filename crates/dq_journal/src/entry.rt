@@ -32,9 +32,16 @@ pub enum Cause {
 #[derive(Debug, Drop)]
 pub enum Entry {
     /// A publish step of the script was done.
-    Publish { lane: u32, step: u32 },
+    Publish {
+        lane: u32,
+        step: u32,
+    },
     /// A batch of the script was admitted.
-    Admit { lane: u32, step: u32, met: Meets },
+    Admit {
+        lane: u32,
+        step: u32,
+        met: Meets,
+    },
     /// A link was leased for a flight: an idle one, or a fresh one that is dialled.
     Lease {
         lane: u32,
@@ -70,7 +77,11 @@ pub enum Entry {
         literal: Kept,
     },
     /// A flight fell.
-    Fall { lane: u32, flight: u64, cause: Cause },
+    Fall {
+        lane: u32,
+        flight: u64,
+        cause: Cause,
+    },
     /// A joiner took a landed flight's answer, or found it fallen and started the next flight.
     Take {
         lane: u32,
@@ -78,5 +89,7 @@ pub enum Entry {
         next: Option<u64>,
     },
     /// The lane is done.
-    End { lane: u32 },
+    End {
+        lane: u32,
+    },
 }

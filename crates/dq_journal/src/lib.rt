@@ -8,3 +8,6 @@ mod result;
 pub use entry::{Cause, Entry, Meets, Met};
 pub use journal::Journal;
 pub use result::{LaneResults, LaneResultsList, StepResult, ZoneResult, ZoneResults};
+
+#[cfg(test)]
+mod tests;

@@ -99,9 +99,9 @@ first_right l rows outcomes first loaded valid own are =
     let Zones : List Query → Type 0 = λ qs. AreOutcomes l.script.schemas (λ source. rows) qs outcomes in
     let asked : Zones (first.query ∷ []) = subst Zones (ap first_zones_of first.lanes) are in
     let all : list_all (λ steps. list_all (step_valid l.script.schemas) steps) (lanes_of first.file first.query) ≡ true =
-        sym (ap (λ lanes. list_all (λ steps. list_all (step_valid l.script.schemas) steps) lanes) first.lanes) ∙ valid in
+    sym (ap (λ lanes. list_all (λ steps. list_all (step_valid l.script.schemas) steps) lanes) first.lanes) ∙ valid in
     let stood = outcomes_over l.script.schemas (λ source. rows) (stand (with_lanes l.script (lanes_of first.file first.query) (v ∷ [])) first_entries 2) (first.query ∷ []) outcomes
-        first.extracts published (valid_with l.script.schemas first.file first.query all) asked in
+    first.extracts published (valid_with l.script.schemas first.file first.query all) asked in
     let Lanes : List (List Step) → Type 0 = λ lanes. IsRight (with_lanes l.script lanes (v ∷ [])) first_entries (first_results outcomes) in
     let Segments : List Version → Type 0 = λ segments. IsRight (with_lanes l.script l.script.lanes segments) first_entries (first_results outcomes) in
     subst Segments (sym one.0) (subst Lanes (sym first.lanes) (right_with l.script v first.file first.query outcomes stood))

@@ -51,11 +51,7 @@ fn ungiven(alloc: Global, name: &Text, fault: FolderFault) -> Fault
 }
 
 /// Reads the script of that name.
-pub fn read_script<F: Folder>(
-    alloc: Global,
-    name: &Text,
-    folder: &mut F,
-) -> Result<Script, Fault>
+pub fn read_script<F: Folder>(alloc: Global, name: &Text, folder: &mut F) -> Result<Script, Fault>
     ensures kept { F.files folder.new ≡ F.files folder.old }
     ensures told { IfSome (F.files folder.old) (λ files. AnswersLoad (script_in name.now (files name.now)) (λ n. n ≡ name.now) result) }
     ensures later { F.faults folder.old ≤ F.faults folder.new }
@@ -175,11 +171,7 @@ fn load_segments<F: Folder>(
 }
 
 /// Loads the script of that name and its files.
-pub fn load_script<F: Folder>(
-    alloc: Global,
-    name: &Text,
-    folder: &mut F,
-) -> Result<Loaded, Fault>
+pub fn load_script<F: Folder>(alloc: Global, name: &Text, folder: &mut F) -> Result<Loaded, Fault>
     ensures told { IfSome (F.files folder.old) (λ files. AnswersLoad (loaded_of files name.now) (λ n. IsAmong n (names_read files name.now)) result) }
     ensures later { F.faults folder.old ≤ F.faults folder.new }
     ensures cause { IfErr result (λ f. ReadCause (F.faults folder.old) (F.faults folder.new) (F.last_fault folder.new) (Some f)) }

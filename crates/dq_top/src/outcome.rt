@@ -47,13 +47,7 @@ pub fn status(told: &Option<Fault>, results: &LaneResultsList) -> u8
 {
     match told {
         Some(fault) => fault.status(),
-        None => {
-            if any_refused(results) {
-                1
-            } else {
-                0
-            }
-        }
+        None => { if any_refused(results) { 1 } else { 0 } }
     }
 }
 
@@ -62,13 +56,7 @@ pub fn told_of(wanting: bool, wrote: Result<(), WriteFault>) -> Option<Fault>
     ensures { result ≡ told_of_write wanting wrote }
 {
     match wrote {
-        Ok(()) => {
-            if wanting {
-                Some(Fault::Memory)
-            } else {
-                None
-            }
-        }
+        Ok(()) => { if wanting { Some(Fault::Memory) } else { None } }
         Err(WriteFault::Failed) => Some(Fault::Write),
         Err(WriteFault::Memory) => Some(Fault::Memory),
     }

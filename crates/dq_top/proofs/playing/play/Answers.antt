@@ -15,5 +15,5 @@ returns c =
     record {
       right = rw (c.in_ok-journal.ensures, c.in_ok-results.ensures)
           (first_right c.args.loaded.now rows c.in_ok-outcomes.outcomes c.requires.first c.script-script.ensures.loaded c.requires.valid c.in_ok-extract.ensures
-          (subst Scripts c.script-script.ensures.script asked))
+          (subst Scripts c.script-script.ensures.script asked));
     }
