@@ -7,3 +7,6 @@
 mod evaluation;
 
 pub use evaluation::evaluate;
+
+#[cfg(test)]
+mod tests;

@@ -1,11 +1,10 @@
 -- How many steps publish.
 use Rattle.std.proofs.Common.{◌≡◌, ◌<◌, ◌≤◌, ℕ, ◌+◌, ◌-◌, List, [], ◌∷◌, ◌++◌, length, take, drop, get_or, refl, ap, sym, ◌∙◌, arith, length-append, true, false, Bool}
-use Rattle.std.proofs.lemmas.Bool.{cases_Bool}
-use Rattle.std.proofs.lemmas.Grind.{common_steps, flat_map-append}
+use Rattle.std.proofs.lemmas.Grind.{flat_map-append}
 use Rattle.std.proofs.lemmas.List.{append-nil, take_more, take-append-drop}
 use Rattle.std.proofs.lemmas.Option.{slice_get_within, get_or_from_slice_get}
 use Rattle.std.specs.List.{flat_map}
-use Rattle.std.specs.Prelude.{slice_get, Option, Some, None, nat_eq, if◌then◌else◌}
+use Rattle.std.specs.Prelude.{slice_get, Some, None, nat_eq, if◌then◌else◌}
 use Rattle.dq_base.specs.Headings.{Heading}
 use Rattle.dq_base.specs.Scripts.{numbered, source_in, sources_of}
 use Rattle.dq_base.specs.Versions.{Version}

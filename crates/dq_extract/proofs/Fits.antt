@@ -1,5 +1,5 @@
 -- The rows of a file fit their schema.
-use Rattle.std.proofs.Common.{◌≡◌, ℕ, ◌+◌, ◌*◌, ◌^◌, ◌<◌, ◌≤◌, zero, suc, ℤ, List, [], ◌∷◌, length, Bool, true, false, Option, Some, None, refl, ap, sym, ◌∙◌, arith, mul-suc}
+use Rattle.std.proofs.Common.{◌≡◌, ℕ, ◌+◌, ◌*◌, ◌^◌, ◌<◌, ◌≤◌, zero, suc, ℤ, List, [], ◌∷◌, length, Bool, true, false, Option, Some, None, refl, ◌∙◌, arith, mul-suc}
 use Rattle.std.proofs.lemmas.Grind.{common_steps}
 use Rattle.std.specs.Prelude.{Result, Ok, Err, if◌then◌else◌, nat_lt, ◌==◌, ◌&&◌, bytes_eq}
 use Rattle.std.specs.Cmp.Lexicographic.{pointwise}

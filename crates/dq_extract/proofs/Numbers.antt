@@ -1,11 +1,10 @@
 -- Whole numbers, as std's `parse` reads them.
-use Rattle.std.proofs.Common.{zero, suc, lit<, ◌≡◌, ◌≢◌, ◌<◌, ◌≤◌, ℕ, ◌^◌, ◌*◌, ◌+◌, ◌-◌, ℤ, pos, neg_ℤ, List, [], ◌∷◌, length, drop, get_or, Bool, true, false, ◌&&◌, nat_lt, Option, Some, None, refl, ap, sym, ◌∙◌, arith, rules, inl, inr, w64}
+use Rattle.std.proofs.Common.{zero, suc, lit<, ◌≡◌, ◌≢◌, ◌<◌, ℕ, ◌^◌, ℤ, List, [], ◌∷◌, length, drop, get_or, Bool, true, false, ◌&&◌, nat_lt, Some, None, refl, ap, sym, ◌∙◌, arith, rules, inl, inr, w64}
 use Rattle.std.proofs.lemmas.Bool.{cases_Bool, false≢true}
 use Rattle.std.proofs.lemmas.Grind.{common_steps}
 use Rattle.std.proofs.lemmas.Str.Parse.{IsNumeralModel, numerals_by_fold, tells_all_ascii_digits, parse_signed_minus, parse_signed_plain}
 use Rattle.std.proofs.lemmas.Str.{IsUtf8-from_ascii, is_utf8-from_IsUtf8, IsUtf8-from_is_utf8}
 use Rattle.std.specs.Prelude.{Result, Ok, Err, IsUtf8, if◌then◌else◌, nat_le, ◌==◌}
-use Rattle.std.specs.Char.{is_ascii_digit}
 use Rattle.std.specs.Result.{OkIff, result_ok}
 use Rattle.std.specs.Str.{all_ascii_digits, is_utf8, IsAscii}
 use Rattle.std.specs.Str.Parse.{ParsesSigned}

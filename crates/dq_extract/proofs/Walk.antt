@@ -10,7 +10,7 @@ use Rattle.dq_base.specs.declared.schema.Sort.{Sort}
 use Rattle.dq_base.specs.declared.value.Value.{Value}
 use Rattle.dq_extract.specs.declared.fault.LoadFault.{LoadFault}
 use Rattle.dq_extract.specs.declared.fault.LoadFault.TheVariants.{Unbuilt, Memory}
-use Rattle.dq_extract.specs.Rows.{RowFault, Width, TooManyCells, Answers, rows_from, row_of, values_from, value_of, with_first}
+use Rattle.dq_extract.specs.Rows.{RowFault, Answers, rows_from, row_of, values_from, value_of, with_first}
 
 -- items that stand before those of what follows
 abbrev pub with_all : {X : Type 0} → List X → Result (List X) RowFault → Result (List X) RowFault

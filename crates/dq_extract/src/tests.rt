@@ -1,5 +1,7 @@
 // What a file's rows are, against files written by hand, and each public call once.
-ghost use Rattle.std.specs.Prelude.{◌≡◌, ◌<◌, ◌≤◌, length};
+ghost use Rattle.std.specs.Arc.{arc_value};
+ghost use Rattle.std.specs.Prelude.{◌≡◌, ◌+◌, ◌<◌, ◌≤◌, length};
+ghost use Rattle.dq_base.specs.Limits.{cell_room};
 ghost use Rattle.dq_base.specs.Versions.{cells_of};
 
 use crate::{Extract, LoadFault, Segment, SegmentList, load};
@@ -7,7 +9,6 @@ use dq_base::{Duplicate, List, Schema, Sort, Sorts, Text, Texts, Value, Values};
 use std::alloc::Global;
 use std::process::Abort;
 use std::sync::Arc;
-use std::test::Fail;
 
 fn word(rt: &impl Abort, alloc: Global, bytes: &[u8]) -> Text {
     Text::copy_of(alloc, bytes).ok().expect(rt, "memory")
@@ -17,9 +18,18 @@ fn three_names(rt: &impl Abort, alloc: Global) -> Texts
     ensures { length result ≡ 3 }
 {
     let mut names: Texts = List::new(alloc);
-    names.push(word(rt, alloc, b"region")).ok().expect(rt, "memory");
-    names.push(word(rt, alloc, b"year")).ok().expect(rt, "memory");
-    names.push(word(rt, alloc, b"amount")).ok().expect(rt, "memory");
+    names
+        .push(word(rt, alloc, b"region"))
+        .ok()
+        .expect(rt, "memory");
+    names
+        .push(word(rt, alloc, b"year"))
+        .ok()
+        .expect(rt, "memory");
+    names
+        .push(word(rt, alloc, b"amount"))
+        .ok()
+        .expect(rt, "memory");
     assert_eq!(rt; names.len(), 3);
     names
 }
@@ -70,13 +80,23 @@ fn spell_rows(rt: &impl Abort, alloc: Global, rows: &[Values]) -> Text {
     line
 }
 
+// The segment of a file, with room for so many cells.
+fn load_file(rt: &impl Abort, alloc: Global, room: u64, file: &[u8]) -> Segment
+    requires { room ≤ 8388608 }
+    ensures { cells_of result ≤ room }
+{
+    let schema = three_columns(rt, alloc);
+    load(alloc, &schema, room, file).ok().expect(rt, "loaded")
+}
+
+fn spell_file(rt: &impl Abort, alloc: Global, file: &[u8]) -> Text {
+    let segment = load_file(rt, alloc, 8388608, file);
+    spell_rows(rt, alloc, segment.rows())
+}
+
 /// A file has these rows.
 fn check_rows(rt: &impl Abort, alloc: Global, file: &str, want: &str) {
-    let schema = three_columns(rt, alloc);
-    let segment = load(alloc, &schema, 8388608, file.as_bytes())
-        .ok()
-        .expect(rt, "loaded");
-    let line = spell_rows(rt, alloc, segment.rows());
+    let line = spell_file(rt, alloc, file.as_bytes());
     assert_eq!(rt; line.bytes(), want.as_bytes(), "{file}");
 }
 
@@ -162,49 +182,80 @@ fn faults_of_fields(rt: HostRuntime) {
     check_fault(&rt, alloc, 8388608, b"region,year,amount\n\xFF,2020,5\n");
 }
 
-// A segment of one row.
-fn one_row(rt: &impl Abort, alloc: Global, schema: &Schema) -> Segment
-    requires { 0 < length schema.now.names }
-    ensures heading { result.heading ≡ schema.now }
-    ensures cells { cells_of result ≤ 3 }
-    ensures rows { length result.rows ≡ 1 }
+fn spell_copy(rt: &impl Abort, alloc: Global, segment: &Segment, place: u64) -> Text
+    requires { place < length segment.now.rows }
 {
-    let segment = load(alloc, schema, 3, b"region,year,amount\nEast,2020,10\n")
-        .ok()
-        .expect(rt, "loaded");
-    assert_eq!(rt; segment.count(), 1);
-    segment
+    let row = segment.row(alloc, place).ok().expect(rt, "memory");
+    let mut line = Text::new(alloc);
+    spell_row(rt, alloc, &mut line, &row);
+    line
+}
+
+/// The copy of a row at a place is this.
+fn check_copy(rt: &impl Abort, alloc: Global, segment: &Segment, place: u64, want: &str) {
+    assert!(rt; place < segment.count());
+    let line = spell_copy(rt, alloc, segment, place);
+    assert_eq!(rt; line.bytes(), want.as_bytes());
 }
 
 #[test]
-fn rows_are_copied(rt: HostRuntime) -> Result<(), Fail> {
+fn rows_are_copied(rt: HostRuntime) {
     let alloc = rt.alloc();
-    let schema = three_columns(&rt, alloc);
-    let segment = one_row(&rt, alloc, &schema);
-    let mut line = Text::new(alloc);
-    spell_row(&rt, alloc, &mut line, &segment.row(alloc, 0)?);
-    assert_eq!(rt; line.bytes(), b"East|2020|10|;".as_slice());
-    assert_eq!(rt; segment.schema().names().len(), 3);
-    Ok(())
+    let file = b"region,year,amount\nEast,2020,10\nWest,2021,5\n";
+    let segment = load_file(&rt, alloc, 6, file);
+    assert_eq!(rt; segment.count(), 2);
+    check_copy(&rt, alloc, &segment, 0, "East|2020|10|;");
+    check_copy(&rt, alloc, &segment, 1, "West|2021|5|;");
 }
 
-/// An extract has so many segments of one row.
+// The shared segment of one row.
+fn one_row(rt: &impl Abort, alloc: Global) -> Arc<Segment>
+    ensures cells { cells_of (arc_value result) ≤ 3 }
+    ensures rows { length (arc_value result).rows ≡ 1 }
+{
+    let segment = load_file(rt, alloc, 3, b"region,year,amount\nEast,2020,10\n");
+    assert_eq!(rt; segment.count(), 1);
+    Arc::new(alloc, segment).ok().expect(rt, "memory")
+}
+
+/// An extract has so many segments.
 fn check_segments(rt: &impl Abort, extract: &Extract, want: u64) {
     let segments: &SegmentList = extract.segments();
     assert_eq!(rt; segments.len(), want);
+    assert!(rt; segments.get(want).is_none());
     assert_eq!(rt; extract.schema().names().len(), 3);
 }
 
+fn empty_under(rt: &impl Abort, alloc: Global, segment: &Segment) -> Extract
+    ensures { result.heading ≡ segment.now.heading }
+{
+    let schema = segment.schema().duplicate(alloc).ok();
+    Extract::empty(alloc, schema.expect(rt, "memory"))
+}
+
+fn replaced_by(rt: &impl Abort, alloc: Global, owner: &Arc<Segment>) -> Extract
+    ensures heading { result.heading ≡ (arc_value owner.now).heading }
+    ensures rows { result.rows ≡ (arc_value owner.now).rows }
+{
+    let empty = empty_under(rt, alloc, owner);
+    check_segments(rt, &empty, 0);
+    empty.replaced(alloc, owner).ok().expect(rt, "memory")
+}
+
+fn check_appended(rt: &impl Abort, alloc: Global, extract: &Extract, owner: &Arc<Segment>)
+    requires heading { (arc_value owner.now).heading ≡ extract.now.heading }
+    requires cells { cells_of extract.now + cells_of (arc_value owner.now) ≤ cell_room }
+    requires rows { length extract.now.rows + length (arc_value owner.now).rows ≤ cell_room }
+{
+    let appended = extract.appended(alloc, owner).ok().expect(rt, "memory");
+    check_segments(rt, &appended, 2);
+}
+
 #[test]
-fn extracts_share_segments(rt: HostRuntime) -> Result<(), Fail> {
+fn extracts_share_segments(rt: HostRuntime) {
     let alloc = rt.alloc();
-    let schema = three_columns(&rt, alloc);
-    let owner = Arc::new(alloc, one_row(&rt, alloc, &schema))?;
-    let empty = Extract::empty(alloc, schema.duplicate(alloc)?);
-    let replaced = empty.replaced(alloc, &owner)?;
-    let appended = replaced.appended(alloc, &owner)?;
-    check_segments(&rt, &empty, 0);
+    let owner = one_row(&rt, alloc);
+    let replaced = replaced_by(&rt, alloc, &owner);
     check_segments(&rt, &replaced, 1);
-    check_segments(&rt, &appended, 2);
-    Ok(())
+    check_appended(&rt, alloc, &replaced, &owner);
 }

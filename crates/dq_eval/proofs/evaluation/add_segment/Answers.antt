@@ -6,7 +6,7 @@ use Rattle.dq_eval.proofs.evaluation.add_segment.Goals as goal
 pub add-requires-clause-room : goal.add-requires-clause-room
 add-requires-clause-room c =
     let within = row_within c.args.segments.now c.args.place c.loop-row.row-index _ c.rows-row-items.result.now c.loop-row.fold c.args.fold.now.key
-        (sym c.in-Some.ensures) (c.rows-row-items.ensures ∙ ap (λ v. v.rows) c.deref.ensures) c.loop-row-test.true c.loop-row.invariant in
+    (sym c.in-Some.ensures) (c.rows-row-items.ensures ∙ ap (λ v. v.rows) c.deref.ensures) c.loop-row-test.true c.loop-row.invariant in
     let few = c.requires.few in
     omega (arith, within, few)
 

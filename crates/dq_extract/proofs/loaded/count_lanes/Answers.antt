@@ -1,4 +1,4 @@
-use Rattle.std.proofs.Common.{arith, ◌≡◌, ◌<◌, ◌+◌, List, ℕ, length, take, ap, sym, ◌∙◌}
+use Rattle.std.proofs.Common.{arith, ◌+◌, List, ℕ, length, ap, ◌∙◌}
 use Rattle.std.proofs.lemmas.List.{take_all}
 use Rattle.std.specs.List.{flat_map}
 use Rattle.dq_base.specs.Scripts.{source_in, sources_of}

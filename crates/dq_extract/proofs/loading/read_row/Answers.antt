@@ -1,8 +1,7 @@
-use Rattle.std.proofs.Common.{arith, ◌≡◌, ◌<◌, ◌+◌, length, sym, ap, ◌∙◌}
+use Rattle.std.proofs.Common.{arith, ◌<◌, ◌+◌, length, sym, ap, ◌∙◌}
 use Rattle.csv.specs.Records.{fields_of}
 use Rattle.csv.proofs.RecordFacts.{field-get, field-there}
 use Rattle.dq_base.specs.declared.schema.Sort.TheVariants as sort
-use Rattle.dq_extract.specs.Rows.{values_from}
 use Rattle.dq_extract.proofs.Walk.{with_all, values_from-drop, next_item, next_fault, Answers-part}
 use Rattle.dq_extract.proofs.loading.read_row.Goals as goal
 

@@ -1,4 +1,4 @@
-use Rattle.std.proofs.Common.{arith, ◌≡◌, ◌≤◌, ◌*◌, ◌+◌, ◌∷◌, [], length, length-append, ◌∙◌, ap, sym}
+use Rattle.std.proofs.Common.{arith, ◌≡◌, ◌≤◌, ◌*◌, ◌+◌, ◌∷◌, [], length, length-append, ◌∙◌, ap}
 use Rattle.csv.specs.Records.{fields_of}
 use Rattle.dq_extract.proofs.Walk.{next_fault, row_next, row_joins, Answers-part}
 use Rattle.dq_extract.proofs.loading.read_rows.Goals as goal

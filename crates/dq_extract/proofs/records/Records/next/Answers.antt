@@ -1,4 +1,4 @@
-use Rattle.std.proofs.Common.{arith, ◌≡◌, ◌<◌, ◌+◌, ◌-◌, List, ℕ, ◌∷◌, Some, Bor, sym, ap, ◌∙◌}
+use Rattle.std.proofs.Common.{arith, ◌≡◌, ◌<◌, ◌+◌, ◌-◌, List, ℕ, Some, Bor, sym, ap, ◌∙◌}
 use Rattle.dq_extract.specs.Left.{records_left}
 use Rattle.dq_extract.proofs.Leaves.{left_after, left_at_end, reads_on, none_left}
 use Rattle.dq_extract.proofs.records.Records.next.Goals as goal
