@@ -1,84 +1,53 @@
-// The answer over the rows of one file.
-ghost use Rattle.std.specs.Prelude.{◌<◌, IfOk, length};
-
+// An answer over no rows: one row without dimensions, and none with one.
 use crate::evaluate;
-use dq_base::{
-    Canon, Cell, Cells, Duplicate, List, Measure, Memory, Query, Schema, Sort, Sorts, Text, Texts,
-};
-use dq_extract::{Extract, load};
+use dq_base::{Canon, Cell, List, Measure, Memory, Numbers, Query, Schema};
+use dq_extract::Extract;
 use std::alloc::Global;
-use std::sync::Arc;
-use std::test::Fail;
+use std::process::Abort;
 
-// A text column and a whole one.
-fn sales(alloc: Global) -> Result<Schema, Memory>
-    ensures { IfOk result (λ schema. 0 < length schema.names) }
-{
-    let mut names: Texts = List::new(alloc);
-    names.push(Text::copy_of(alloc, b"region")?)?;
-    names.push(Text::copy_of(alloc, b"amount")?)?;
-    let mut sorts: Sorts = List::new(alloc);
-    sorts.push(Sort::Word)?;
-    sorts.push(Sort::Whole)?;
-    Ok(Schema::new(names, sorts))
+// An extract without columns or rows.
+fn nothing(alloc: Global) -> Extract {
+    Extract::empty(alloc, Schema::new(List::new(alloc), List::new(alloc)))
 }
 
-// By region, the sum of the amounts and the number of rows.
-fn sums(alloc: Global) -> Result<Canon, Memory> {
+// The number of rows, by these columns.
+fn rows_by(alloc: Global, dims: Numbers) -> Result<Canon, Memory> {
+    let mut measures = List::new(alloc);
+    measures.push(Measure::Rows)?;
     Ok(Canon::new(Query {
         source: 0,
         filters: List::new(alloc),
-        dims: List::from_vec(vec![in alloc; 0]?),
-        measures: List::from_vec(vec![in alloc; Measure::Sum(1), Measure::Rows]?),
+        dims,
+        measures,
         order: List::new(alloc),
         top: None,
     }))
 }
 
-fn is_word(cell: Option<&Cell>, word: &str) -> bool {
-    match cell {
-        Some(Cell::Word(text)) => text.bytes() == word.as_bytes(),
-        _ => false,
-    }
-}
-
-fn is_whole(cell: Option<&Cell>, number: i128) -> bool {
-    match cell {
-        Some(Cell::Whole(n)) => *n == number,
-        _ => false,
-    }
-}
-
-fn is_row(row: Option<&Cells>, region: &str, sum: i128, count: i128) -> bool {
-    let Some(cells) = row else {
-        return false;
-    };
-    cells.len() == 3
-        && is_word(cells.get(0), region)
-        && is_whole(cells.get(1), sum)
-        && is_whole(cells.get(2), count)
+fn check_length(rt: &impl Abort, alloc: Global, dims: Numbers, want: u64) {
+    let key = rows_by(alloc, dims).ok().expect(rt, "memory");
+    let table = evaluate(alloc, &nothing(alloc), &key)
+        .ok()
+        .expect(rt, "memory");
+    assert_eq!(rt; table.len(), want);
 }
 
 #[test]
-fn regions_are_summed(rt: HostRuntime) -> Result<(), Fail> {
+fn totals_stand_over_no_rows(rt: HostRuntime) {
     let alloc = rt.alloc();
-    let schema = sales(alloc)?;
-    let Ok(segment) = load(
-        alloc,
-        &schema,
-        6,
-        b"region,amount\nEast,10\nWest,7\nEast,5\n",
-    ) else {
-        assert!(rt; false, "not loaded");
-        return Ok(());
-    };
-    let owner = Arc::new(alloc, segment)?;
-    let empty = Extract::empty(alloc, schema.duplicate(alloc)?);
-    let extract = empty.replaced(alloc, &owner)?;
-    let table = evaluate(alloc, &extract, &sums(alloc)?)?;
-    assert_eq!(rt; table.len(), 2);
-    for (place, region, sum, count) in [(0, "East", 15, 2), (1, "West", 7, 1)] {
-        assert!(rt; is_row(table.get(place), region, sum, count), "{region}");
-    }
-    Ok(())
+    let mut region = List::new(alloc);
+    assert!(rt; region.push(0).is_ok());
+    check_length(&rt, alloc, List::new(alloc), 1);
+    check_length(&rt, alloc, region, 0);
+}
+
+#[test]
+fn no_row_is_counted(rt: HostRuntime) {
+    let alloc = rt.alloc();
+    let key = rows_by(alloc, List::new(alloc)).ok().expect(&rt, "memory");
+    let table = evaluate(alloc, &nothing(alloc), &key)
+        .ok()
+        .expect(&rt, "memory");
+    let count = table.get(0).and_then(|row| row.get(0));
+    assert!(rt; matches!(count, Some(Cell::Whole(0))));
 }
