@@ -1,120 +1,143 @@
--- What holds of a script of the first form.
-use Rattle.std.proofs.Common.{◌≡◌, ℕ, ◌+◌, ◌<◌, ◌≤◌, List, [], ◌∷◌, length, true, false, Some, None, refl, subst, arith}
-use Rattle.std.specs.Prelude.{◌==◌, nat_le, nat_lt, option_and_then, option_map, codes}
-use Rattle.std.specs.Str.{bytes_eq}
-use Rattle.std.proofs.lemmas.Bool.{lt-leb, le-leb, lt-ltb, le-ltb, ne_eqb}
-use Rattle.std.proofs.lemmas.List.Quantifiers.{position-Some}
-use Rattle.std.proofs.lemmas.Option.{option_and_then_some}
-use Rattle.serde_json.specs.Data.{Data}
-use Rattle.serde_json.specs.Find.{as_str}
+-- What is read keeps what its parts ask for.
+use Rattle.std.proofs.Common.{◌≡◌, ℕ, ◌+◌, ◌<◌, List, [], ◌∷◌, ◌++◌, Bool, true, ◌&&◌, length, Option, Some, None, refl, ap, sym, ◌∙◌, subst, arith, length-append}
+use Rattle.std.specs.Prelude.{nat_le, nat_lt, pos, negsuc, ℤ, codes}
+use Rattle.std.specs.List.{list_all}
+use Rattle.std.proofs.lemmas.Bool.{le-leb}
+use Rattle.std.proofs.lemmas.Option.{option_and_then_some, same_Some, cond_some}
+use Rattle.serde_json.specs.Data.{Data, Items, no_items, item}
+use Rattle.serde_json.specs.Find.{as_array, get}
 use Rattle.dq_base.specs.Headings.{Heading}
-use Rattle.dq_base.specs.Scripts.{IsScript}
-use Rattle.dq_base.specs.Validity.{invalid_by}
-use Rattle.dq_base.specs.declared.query.Measure.{Measure}
-use Rattle.dq_base.specs.declared.query.Query.{Query}
-use Rattle.dq_base.specs.declared.script.Script.{Script}
-use Rattle.dq_script.specs.Columns.{columns_of}
-use Rattle.dq_script.specs.Extracts.{extract_with, extract_parts, extract_of}
-use Rattle.dq_script.specs.First.{IsFirst, all_valid}
-use Rattle.dq_script.specs.FirstForm.{json_of, is_one, script_with, script_around, script_over, script_parts, script_of, first_form}
-use Rattle.dq_script.specs.Members.{both, only_member, two_members, three_members}
-use Rattle.dq_script.specs.Parts.{is_string, string_of, only_item, two_items, few_items, count}
-use Rattle.dq_script.specs.Sessions.{file_of, batch_of, session_with, session_parts, session_of}
-use Rattle.dq_script.specs.Zones.{place_of, column_at, dim_of, measures_in, measures_of, query_with, zone_parts, zone_of}
-use Rattle.dq_script.specs.declared.extract.Extract.{Extract}
-use Rattle.dq_script.specs.declared.session.Session.{Session}
-use Rattle.dq_script.proofs.Chains.{then_is, option_map_some, both_first, both_second}
-use Rattle.dq_script.proofs.Fitting.{AreFit, measures_in-AreFit}
-use Rattle.dq_script.proofs.Sizes.{IsFew, IsTable, few_items-few, columns_of-IsTable}
+use Rattle.dq_script.proofs.Chains.{first_holds, second_holds, option_map_some, then_is, pair_first, pair_second}
+use Rattle.dq_script.specs.Arrays.{values_in, before, values_after}
+use Rattle.dq_script.specs.Columns.{column_of, with_column, next_column, no_columns, columns_of, extract_of, extract_with, with_extract, next_extract, no_extracts, extracts_of}
+use Rattle.dq_script.specs.Drafts.{session_with, session_of, draft_with, draft_over, start_of, draft_of}
+use Rattle.dq_script.specs.Objects.{read_or}
+use Rattle.dq_script.specs.Parts.{between, number_of, whole_of, most_whole, some, some_items}
+use Rattle.dq_script.specs.Readings.{given}
+use Rattle.dq_script.specs.Steps.{numbers_of}
+use Rattle.dq_script.specs.declared.draft.Draft.{Draft}
+use Rattle.dq_script.specs.declared.draft.Session.{Session}
+use Rattle.dq_script.specs.declared.extracts.Extract.{Extract}
+use Rattle.dq_script.specs.declared.extracts.Extracts.{Extracts}
 
--- a valid query of the one extract
-pub record IsAsked (h : Heading) (q : Query) : Type 0 where
-  pub valid : invalid_by (h ∷ []) q ≡ None
+-- an extract has a column
+abbrev pub has_columns : Heading → Bool
+has_columns h = nat_lt 0 (length h.names)
 
-query_with-valid : (h : Heading) (place : ℕ) (ms : List Measure) (n : ℕ)
-    → place < length h.sorts → n ≤ 64 → AreFit h.sorts ms n → invalid_by (h ∷ []) (query_with (place, ms)) ≡ None
-query_with-valid h place ms n within few fit =
-    let counted : length ms ≡ n = fit.counted in
-    let column : nat_le (length h.sorts) place ≡ false = lt-leb (length h.sorts) place within in
-    let shown : ((1 + length ms) == 0) ≡ false = ne_eqb (1 + length ms) 0 (λ e. omega arith) in
-    let short : nat_lt 512 (length ms) ≡ false = le-ltb 512 (length ms) (omega arith) in
-    rw (column, fit.inside, fit.fits, shown, short) refl
+abbrev pub is_some_number : ℕ → Bool
+is_some_number n = nat_lt 0 n
 
-dim_of-within : (names : List (List ℕ)) (d : Data) (place : ℕ) → dim_of names d ≡ Some place → place < length names
-dim_of-within names d place e = option_and_then_some (column_at names) (only_item d) place e (λ x found at.
-    option_and_then_some (place_of names) (as_str x) place at (λ name is placed.
-    (position-Some (λ other. bytes_eq other name) names place [] placed).0))
+pub record IsNamed (es : Extracts) : Type 0 where
+  pub named : length es.names ≡ length es.schemas
+  pub full : list_all has_columns es.schemas ≡ true
 
-zone_parts-IsAsked : (e : Extract) (p : Data × Data × Data) (q : Query) → IsTable e.schema → zone_parts e p ≡ Some q → IsAsked e.schema q
-zone_parts-IsAsked e p q table is =
-    let o = then_is (is_string e.name p.0) (option_map query_with (both (dim_of e.schema.names p.1) (measures_of e.schema p.2))) q is in
-    option_map_some query_with (both (dim_of e.schema.names p.1) (measures_of e.schema p.2)) q o (λ pair are made.
-    option_and_then_some (measures_in e.schema) (few_items p.2) pair.1 (both_second (dim_of e.schema.names p.1) (measures_of e.schema p.2) pair are) (λ ds few read.
-    let within : pair.0 < length e.schema.names = dim_of-within e.schema.names p.1 pair.0 (both_first (dim_of e.schema.names p.1) (measures_of e.schema p.2) pair are) in
-    let paired : length e.schema.sorts ≡ length e.schema.names = table.paired in
-    subst (IsAsked e.schema) made record {
-      valid = query_with-valid e.schema pair.0 pair.1 (count ds) (omega arith) (few_items-few p.2 ds few).within (measures_in-AreFit e.schema ds pair.1 read);
-    }))
+pub record IsTimed (s : Session) : Type 0 where
+  pub turns : list_all is_some_number s.schedule ≡ true
+  pub literal : is_some_number s.literal ≡ true
+  pub clever : is_some_number s.clever ≡ true
 
-batch_of-IsAsked : (e : Extract) (d : Data) (q : Query) → IsTable e.schema → batch_of e d ≡ Some q → IsAsked e.schema q
-batch_of-IsAsked e d q table is = option_and_then_some (zone_of e) (option_and_then only_item (only_member (codes "batch") d)) q is (λ z found zone.
-    option_and_then_some (zone_parts e) (three_members (codes "source") (codes "by") (codes "show") z) q zone (λ p members parts. zone_parts-IsAsked e p q table parts))
+pub record IsKept (d : Draft) : Type 0 where
+  pub extracts : IsNamed d.extracts
+  pub session : IsTimed d.session
 
--- a session that asks a valid query
-record Asks (h : Heading) (s : Session) : Type 0 where
-  pub asked : IsAsked h s.query
+positive : (n : ℕ) → 0 < n → nat_lt 0 n ≡ true
+positive n h = le-leb 1 n h
 
-session_of-Asks : (e : Extract) (d : Data) (s : Session) → IsTable e.schema → session_of e d ≡ Some s → Asks e.schema s
-session_of-Asks e d s table is = option_and_then_some (session_parts e) (option_and_then two_items (only_item d)) s is (λ p found parts.
-    option_map_some session_with (both (file_of e.name p.0) (batch_of e p.1)) s parts (λ pair are made.
-    subst (Asks e.schema) made record { asked = batch_of-IsAsked e p.1 pair.1 table (both_second (file_of e.name p.0) (batch_of e p.1) pair are) }))
+columns-grow : (ds : Items) (s t : Heading) → values_after (λ h d. (next_column h d).value) s ds ≡ Some t → 0 < length s.names → 0 < length t.names
+columns-grow no_items s t e some = let same : s ≡ t = same_Some s t e in rw (← same) some
+columns-grow (item d ds) s t e some = option_and_then_some (λ u. values_after (λ h d. (next_column h d).value) u ds) (next_column s d).value t e (λ u one more.
+    option_map_some (with_column s) (column_of s.names d).value u one (λ c found is.
+    let P : Heading → Type 0 = λ h. 0 < length h.names in
+    let longer : length (s.names ++ c.name ∷ []) ≡ length s.names + 1 = length-append s.names (c.name ∷ []) in
+    columns-grow ds u t more (subst P is (omega arith))))
 
--- an extract of 1 to 64 columns
-record HasTable (e : Extract) : Type 0 where
-  pub table : IsTable e.schema
+columns_some : (ds es : Items) (t : Heading) → some ds ≡ Some es → values_after (λ h d. (next_column h d).value) no_columns es ≡ Some t → 0 < length t.names
+columns_some no_items es t is e = cc is
+columns_some (item d ds) es t is e =
+    let same : item d ds ≡ es = same_Some (item d ds) es is in
+    let P : Items → Type 0 = λ xs. values_after (λ h x. (next_column h x).value) no_columns xs ≡ Some t in
+    let from : values_after (λ h x. (next_column h x).value) no_columns (item d ds) ≡ Some t = subst P (sym same) e in
+    option_and_then_some (λ u. values_after (λ h x. (next_column h x).value) u ds) (next_column no_columns d).value t from (λ u one more.
+    option_map_some (with_column no_columns) (column_of [] d).value u one (λ c found made.
+    let Q : Heading → Type 0 = λ h. 0 < length h.names in
+    columns-grow ds u t more (subst Q made (omega arith))))
 
-extract_of-HasTable : (d : Data) (e : Extract) → extract_of d ≡ Some e → HasTable e
-extract_of-HasTable d e is = option_and_then_some extract_parts (option_and_then (two_members (codes "name") (codes "columns")) (only_item d)) e is (λ p found parts.
-    option_map_some extract_with (both (string_of p.0) (columns_of p.1)) e parts (λ pair are made.
-    subst HasTable made record { table = columns_of-IsTable p.1 pair.1 (both_second (string_of p.0) (columns_of p.1) pair are) }))
+columns_of-some : (d : Data) (t : Heading) → (columns_of d).value ≡ Some t → has_columns t ≡ true
+columns_of-some d t e = option_and_then_some (values_after (λ h x. (next_column h x).value) no_columns) (some_items d) t e (λ es found more.
+    option_and_then_some some (as_array d) es found (λ ds array is. positive (length t.names) (columns_some ds es t is more)))
 
--- what is promised of a script
-pub record IsKept (s : Script) : Type 0 where
-  pub fits : IsScript s
-  pub valid : all_valid s ≡ true
-  pub shape : IsFirst s
+extract-full : (earlier : List (List ℕ)) (d : Data) (e : Extract) → (extract_of earlier d).value ≡ Some e → has_columns e.schema ≡ true
+extract-full earlier d e is = option_map_some extract_with _ e is (λ p parts made.
+    let P : Extract → Type 0 = λ x. has_columns x.schema ≡ true in
+    subst P made (option_and_then_some (λ x. (columns_of x).value) (get (codes "columns") d) p.1 (pair_second _ _ p (then_is _ _ p parts)) (λ x found columns. columns_of-some x p.1 columns)))
 
-script_with-fits : (e : Extract) (s : Session) → IsFew (length e.schema.names) → IsScript (script_with e s)
-script_with-fits e s few = record {
-  named = refl;
-  extracts = omega arith;
-  columns = rw (lt-ltb 0 (length e.schema.names) few.some, le-leb (length e.schema.names) 64 few.within) refl;
-  lanes = omega arith;
-  steps = refl;
-  zones = omega arith;
-  turns = omega arith;
-  turns_of_lanes = refl;
-  literal = record { some = omega arith; within = omega arith };
-  clever = record { some = omega arith; within = omega arith };
-  fails = refl;
-  faults = refl;
+all-with : {A : Type 0} (p : A → Bool) (xs : List A) (x : A) → list_all p xs ≡ true → p x ≡ true → list_all p (xs ++ x ∷ []) ≡ true
+all-with p [] x all one = rw one refl
+all-with p (y ∷ ys) x all one = rw (first_holds (p y) (list_all p ys) all) (all-with p ys x (second_holds (p y) (list_all p ys) all) one)
+
+with_extract-named : (es : Extracts) (e : Extract) → IsNamed es → has_columns e.schema ≡ true → IsNamed (with_extract es e)
+with_extract-named es e named full = record {
+  named = length-append es.names (e.name ∷ []) ∙ (ap (λ n. n + 1) named.named ∙ sym (length-append es.schemas (e.schema ∷ [])));
+  full = all-with has_columns es.schemas e.schema named.full full;
 }
 
-script_with-IsKept : (e : Extract) (s : Session) → IsTable e.schema → Asks e.schema s → IsKept (script_with e s)
-script_with-IsKept e s table asks = record {
-  fits = script_with-fits e s table.few;
-  valid = rw asks.asked.valid refl;
-  shape = record { file = s.file; query = s.query; lanes = refl; extracts = refl };
-}
+extracts-named : (ds : Items) (s t : Extracts) → values_after (λ es d. (next_extract es d).value) s ds ≡ Some t → IsNamed s → IsNamed t
+extracts-named no_items s t e named = subst IsNamed (same_Some s t e) named
+extracts-named (item d ds) s t e named = option_and_then_some (λ u. values_after (λ es x. (next_extract es x).value) u ds) (next_extract s d).value t e (λ u one more.
+    option_map_some (with_extract s) (extract_of s.names d).value u one (λ x found made.
+    extracts-named ds u t more (subst IsNamed made (with_extract-named s x named (extract-full s.names d x found)))))
 
-script_over-IsKept : (extracts lanes : Data) (s : Script) → script_over extracts lanes ≡ Some s → IsKept s
-script_over-IsKept extracts lanes s is = option_and_then_some (script_around lanes) (extract_of extracts) s is (λ e found around.
-    option_map_some (script_with e) (session_of e lanes) s around (λ session asked made.
-    let table = (extract_of-HasTable extracts e found).table in
-    subst IsKept made (script_with-IsKept e session table (session_of-Asks e lanes session table asked))))
+extracts_of-named : (d : Data) (t : Extracts) → (extracts_of d).value ≡ Some t → IsNamed t
+extracts_of-named d t e = option_and_then_some (values_after (λ es x. (next_extract es x).value) no_extracts) (as_array d) t e (λ ds array more.
+    extracts-named ds no_extracts t more record { named = refl; full = refl })
 
--- a script of the first form keeps what is promised
-pub first_form-IsKept : (bytes : List ℕ) (s : Script) → first_form bytes ≡ Some s → IsKept s
-first_form-IsKept bytes s e = option_and_then_some script_of (json_of bytes) s e (λ d json is.
-    option_and_then_some script_parts (three_members (codes "form") (codes "extracts") (codes "lanes") d) s is (λ p found parts.
-    script_over-IsKept p.1 p.2 s (then_is (is_one p.0) (script_over p.1 p.2) s parts)))
+between-some : (z : ℤ) (n : ℕ) → between 1 most_whole z ≡ Some n → is_some_number n ≡ true
+between-some (pos k) n e =
+    let t = cond_some (nat_le 1 k && nat_le k most_whole) k n e in
+    let P : ℕ → Type 0 = λ x. is_some_number x ≡ true in
+    subst P t.1 (first_holds (nat_le 1 k) (nat_le k most_whole) t.0)
+between-some (negsuc k) n e = cc e
+
+number-some : (d : Data) (n : ℕ) → number_of 1 most_whole d ≡ Some n → is_some_number n ≡ true
+number-some d n e = option_and_then_some (between 1 most_whole) (whole_of d) n e (λ z found is. between-some z n is)
+
+capacity-some : (o : Option Data) (n : ℕ) → (read_or 64 (λ x. given (number_of 1 most_whole x)) o).value ≡ Some n → is_some_number n ≡ true
+capacity-some None n e = let P : ℕ → Type 0 = λ x. is_some_number x ≡ true in subst P (same_Some 64 n e) refl
+capacity-some (Some d) n e = number-some d n e
+
+before-some : (o : Option ℕ) (more : Option (List ℕ)) (xs : List ℕ)
+    → ((n : ℕ) → o ≡ Some n → is_some_number n ≡ true) → ((ys : List ℕ) → more ≡ Some ys → list_all is_some_number ys ≡ true)
+    → before o more ≡ Some xs → list_all is_some_number xs ≡ true
+before-some None more xs one all e = cc e
+before-some (Some n) None xs one all e = cc e
+before-some (Some n) (Some ys) xs one all e =
+    let P : List ℕ → Type 0 = λ zs. list_all is_some_number zs ≡ true in
+    subst P (same_Some (n ∷ ys) xs e) (rw (one n refl) (all ys refl))
+
+values-some : (ds : Items) (xs : List ℕ) → values_in (λ d. number_of 1 most_whole d) ds ≡ Some xs → list_all is_some_number xs ≡ true
+values-some no_items xs e = let P : List ℕ → Type 0 = λ zs. list_all is_some_number zs ≡ true in subst P (same_Some [] xs e) refl
+values-some (item d ds) xs e = before-some (number_of 1 most_whole d) (values_in (λ x. number_of 1 most_whole x) ds) xs (number-some d) (values-some ds) e
+
+schedule-some : (o : Option Data) (xs : List ℕ) → (read_or [] (numbers_of 1) o).value ≡ Some xs → list_all is_some_number xs ≡ true
+schedule-some None xs e = let P : List ℕ → Type 0 = λ zs. list_all is_some_number zs ≡ true in subst P (same_Some [] xs e) refl
+schedule-some (Some d) xs e = option_and_then_some (values_in (λ x. number_of 1 most_whole x)) (as_array d) xs e (λ ds array is. values-some ds xs is)
+
+session_of-timed : (es : Extracts) (d : Data) (s : Session) → (session_of es d).value ≡ Some s → IsTimed s
+session_of-timed es d s e = option_map_some session_with _ s e (λ p parts made.
+    let capacities = pair_first _ _ p parts in
+    let rest = pair_second _ _ p.1 (pair_second _ _ p parts) in
+    subst IsTimed made record {
+      turns = schedule-some (get (codes "schedule") d) p.1.1.0 (pair_first _ _ p.1.1 rest);
+      literal = capacity-some (get (codes "literal") d) p.0.0 (pair_first _ _ p.0 capacities);
+      clever = capacity-some (get (codes "clever") d) p.0.1 (pair_second _ _ p.0 capacities);
+    })
+
+start_of-named : (d : Data) (es : Extracts) → (start_of d).value ≡ Some es → IsNamed es
+start_of-named d es e = option_map_some _ _ es e (λ p parts made.
+    subst IsNamed made (option_and_then_some (λ x. (extracts_of x).value) (get (codes "extracts") d) p.1 (pair_second _ _ p parts) (λ x found is. extracts_of-named x p.1 is)))
+
+-- a draft has as many names as schemas, no extract without columns, and its numbers count from 1
+pub draft_of-kept : (d : Data) (t : Draft) → (draft_of d).value ≡ Some t → IsKept t
+draft_of-kept d t e = option_and_then_some (λ es. (draft_over d es).value) (start_of d).value t (then_is _ _ t e) (λ es start over.
+    option_map_some (draft_with es) (session_of es d).value t over (λ s session made.
+    subst IsKept made record { extracts = start_of-named d es start; session = session_of-timed es d s session }))

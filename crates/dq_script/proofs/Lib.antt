@@ -1,10 +1,14 @@
 pub mod Among
+pub mod Agreed
+pub mod Ahead
 pub mod Chains
-pub mod Columned
 pub mod Counted
-pub mod Fitting
+pub mod Earlier
+pub mod Fitted
 pub mod Json
 pub mod Kept
-pub mod Measured
-pub mod Placed
-pub mod Sizes
+pub mod Scripted
+pub mod Smaller
+pub mod Sourced
+pub mod Tallied
+mod Worked

@@ -1,14 +1,19 @@
--- The columns that a script writes.
-use Rattle.std.specs.Prelude.{ℕ, List, [], ◌∷◌, Bool, false, ◌||◌, Option, Some, None, option_and_then, option_map, if◌then◌else◌, codes}
-use Rattle.std.specs.List.{list_any}
-use Rattle.std.specs.Str.{bytes_eq}
-use Rattle.serde_json.specs.Data.{Data, Items, no_items, item}
+-- The columns and extracts that a script writes.
+use Rattle.std.specs.Prelude.{ℕ, List, [], ◌∷◌, ◌++◌, Bool, ◌&&◌, Option, Some, None, nat_le, length, if◌then◌else◌, codes}
+use Rattle.std.specs.List.{list_all}
+use Rattle.serde_json.specs.Data.{Data}
+use Rattle.serde_json.specs.Find.{as_array}
 use Rattle.dq_base.specs.Headings.{Heading}
+use Rattle.dq_base.specs.Limits.{most_extracts, most_columns}
 use Rattle.dq_base.specs.declared.schema.Sort.{Sort}
 use Rattle.dq_base.specs.declared.schema.Sort.TheVariants as sort
-use Rattle.dq_script.specs.Members.{both}
-use Rattle.dq_script.specs.Parts.{is_string, string_of, two_items, few_items}
+use Rattle.dq_script.specs.Arrays.{items_after}
+use Rattle.dq_script.specs.Objects.{object_of, wanted}
+use Rattle.dq_script.specs.Parts.{is_string, new_name, two_items, some_items}
+use Rattle.dq_script.specs.Readings.{Reading, given, within, mapped, both, and_then}
 use Rattle.dq_script.specs.declared.columns.Column.{Column}
+use Rattle.dq_script.specs.declared.extracts.Extract.{Extract}
+use Rattle.dq_script.specs.declared.extracts.Extracts.{Extracts}
 
 -- "text" or "whole"
 abbrev pub sort_of : Data → Option Sort
@@ -17,31 +22,51 @@ sort_of d = if is_string (codes "text") d then Some sort.Word else if is_string 
 abbrev pub column_with : (List ℕ × Sort) → Column
 column_with p = record { name = p.0; sort = p.1 }
 
-abbrev pub column_parts : (Data × Data) → Option Column
-column_parts p = option_map column_with (both (string_of p.0) (sort_of p.1))
+abbrev pub column_parts : List (List ℕ) → (Data × Data) → Reading (List ℕ × Sort)
+column_parts earlier p = both (within (codes "0") (given (new_name earlier p.0))) (within (codes "1") (given (sort_of p.1)))
 
--- an array of a name that isn't empty and a sort
-abbrev pub column_of : Data → Option Column
-column_of d = option_and_then column_parts (two_items d)
+-- an array of a name, which no earlier column has, and a sort
+abbrev pub column_of : List (List ℕ) → Data → Reading Column
+column_of earlier d = mapped column_with (and_then (column_parts earlier) (given (two_items d)))
 
-abbrev pub column_then : Option Column → Option Heading → Option Heading
-column_then None rest = None
-column_then (Some c) None = None
-column_then (Some c) (Some h) = Some (record { names = c.name ∷ h.names; sorts = c.sort ∷ h.sorts })
+abbrev pub with_column : Heading → Column → Heading
+with_column h c = record { names = h.names ++ c.name ∷ []; sorts = h.sorts ++ c.sort ∷ [] }
 
--- the heading of columns in order
-abbrev pub columns_in : Items → Option Heading
-columns_in no_items = Some (record { names = []; sorts = [] })
-columns_in (item d ds) = column_then (column_of d) (columns_in ds)
+abbrev pub next_column : Heading → Data → Reading Heading
+next_column h d = mapped (with_column h) (column_of h.names d)
 
--- some text stands again behind itself
-abbrev pub repeats : List (List ℕ) → Bool
-repeats [] = false
-repeats (x ∷ xs) = list_any (λ other. bytes_eq other x) xs || repeats xs
+abbrev pub no_columns : Heading
+no_columns = record { names = []; sorts = [] }
 
-abbrev pub unless_repeated : Heading → Option Heading
-unless_repeated h = if repeats h.names then None else Some h
+-- an array of columns that isn't empty
+abbrev pub columns_of : Data → Reading Heading
+columns_of d = and_then (items_after next_column no_columns) (given (some_items d))
 
--- 1 to 64 columns, whose names differ
-abbrev pub columns_of : Data → Option Heading
-columns_of d = option_and_then unless_repeated (option_and_then columns_in (few_items d))
+abbrev pub extract_with : (List ℕ × Heading) → Extract
+extract_with p = record { name = p.0; schema = p.1 }
+
+-- an object of a name, which no earlier extract has, and columns
+abbrev pub extract_of : List (List ℕ) → Data → Reading Extract
+extract_of earlier d = mapped extract_with (object_of (codes "name" ∷ codes "columns" ∷ [])
+    (both (wanted (codes "name") (λ n. given (new_name earlier n)) d) (wanted (codes "columns") columns_of d)) d)
+
+abbrev pub with_extract : Extracts → Extract → Extracts
+with_extract es e = record { names = es.names ++ e.name ∷ []; schemas = es.schemas ++ e.schema ∷ [] }
+
+abbrev pub next_extract : Extracts → Data → Reading Extracts
+next_extract es d = mapped (with_extract es) (extract_of es.names d)
+
+abbrev pub no_extracts : Extracts
+no_extracts = record { names = []; schemas = [] }
+
+-- an array of extracts
+abbrev pub extracts_of : Data → Reading Extracts
+extracts_of d = and_then (items_after next_extract no_extracts) (given (as_array d))
+
+-- columns within their limit
+abbrev pub columns_fit : Heading → Bool
+columns_fit h = nat_le (length h.names) most_columns
+
+-- extracts and columns within their limits
+abbrev pub extracts_fit : Extracts → Bool
+extracts_fit es = nat_le (length es.names) most_extracts && list_all columns_fit es.schemas

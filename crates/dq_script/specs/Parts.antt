@@ -1,16 +1,10 @@
 -- What the parts of a JSON value are.
-use Rattle.std.specs.Prelude.{◌≡◌, ⊤, ℕ, ◌+◌, List, [], ◌∷◌, Bool, false, nat_le, Option, Some, None, option_and_then, if◌then◌else◌, Result, Ok, Err}
+use Rattle.std.specs.Prelude.{ℕ, ℤ, pos, negsuc, List, [], ◌∷◌, Bool, false, ◌&&◌, nat_le, Option, Some, None, is_some, option_and_then, unwrap_or, position, length, if◌then◌else◌}
+use Rattle.std.specs.List.{list_any}
 use Rattle.std.specs.Str.{bytes_eq}
 use Rattle.serde_json.specs.Data.{Data, Items, no_items, item}
-use Rattle.serde_json.specs.Find.{as_str, as_array}
-use Rattle.dq_script.specs.declared.fault.ScriptFault.{ScriptFault}
-use Rattle.dq_script.specs.declared.fault.ScriptFault.TheVariants as fault
-
--- an answer is what is meant, and isn't built where nothing is; only want of memory is told besides
-abbrev pub Answers : {A : Type 0} → Option A → Result A ScriptFault → Type 0
-Answers want (Ok x) = want ≡ Some x
-Answers want (Err fault.Unbuilt) = want ≡ None
-Answers want (Err fault.Memory) = ⊤
+use Rattle.serde_json.specs.Find.{as_null, as_number, as_i64, as_str, as_array}
+use Rattle.dq_script.specs.Readings.{kept_if}
 
 abbrev pub is_text : List ℕ → Option (List ℕ) → Bool
 is_text text None = false
@@ -20,7 +14,6 @@ is_text text (Some s) = bytes_eq s text
 abbrev pub is_string : List ℕ → Data → Bool
 is_string text d = is_text text (as_str d)
 
--- a text that isn't empty
 abbrev pub unless_empty : List ℕ → Option (List ℕ)
 unless_empty [] = None
 unless_empty (b ∷ bs) = Some (b ∷ bs)
@@ -29,15 +22,18 @@ unless_empty (b ∷ bs) = Some (b ∷ bs)
 abbrev pub string_of : Data → Option (List ℕ)
 string_of d = option_and_then unless_empty (as_str d)
 
+abbrev pub unless_among : List (List ℕ) → List ℕ → Option (List ℕ)
+unless_among earlier name = if list_any (λ other. bytes_eq other name) earlier then None else Some name
+
+-- a string that isn't empty, and none of these
+abbrev pub new_name : List (List ℕ) → Data → Option (List ℕ)
+new_name earlier d = option_and_then (unless_among earlier) (string_of d)
+
 -- the one item
 abbrev pub only : Items → Option Data
 only no_items = None
 only (item d no_items) = Some d
 only (item d (item e ds)) = None
-
--- the item of an array of one
-abbrev pub only_item : Data → Option Data
-only_item d = option_and_then only (as_array d)
 
 -- the two items
 abbrev pub two : Items → Option (Data × Data)
@@ -50,16 +46,37 @@ two (item d (item e (item f ds))) = None
 abbrev pub two_items : Data → Option (Data × Data)
 two_items d = option_and_then two (as_array d)
 
--- how many items there are
-abbrev pub count : Items → ℕ
-count no_items = 0
-count (item d ds) = count ds + 1
+abbrev pub some : Items → Option Items
+some no_items = None
+some (item d ds) = Some (item d ds)
 
--- the items, where there are 1 to 64
-abbrev pub few : Items → Option Items
-few no_items = None
-few (item d ds) = if nat_le (count (item d ds)) 64 then Some (item d ds) else None
+-- the items of an array that isn't empty
+abbrev pub some_items : Data → Option Items
+some_items d = option_and_then some (as_array d)
 
--- the items of an array of 1 to 64
-abbrev pub few_items : Data → Option Items
-few_items d = option_and_then few (as_array d)
+-- a whole number
+abbrev pub whole_of : Data → Option ℤ
+whole_of d = option_and_then as_i64 (as_number d)
+
+abbrev pub between : ℕ → ℕ → ℤ → Option ℕ
+between low high (pos n) = kept_if (nat_le low n && nat_le n high) n
+between low high (negsuc n) = None
+
+-- a whole number from the one to the other
+abbrev pub number_of : ℕ → ℕ → Data → Option ℕ
+number_of low high d = option_and_then (between low high) (whole_of d)
+
+-- the largest of the whole numbers, and of those that name a place
+abbrev pub most_whole : ℕ
+most_whole = 9223372036854775807
+
+abbrev pub most_place : ℕ
+most_place = 4294967295
+
+-- the place from 0 of the first of this name, and the number of names where there is none
+abbrev pub place_in : List (List ℕ) → List ℕ → ℕ
+place_in names name = unwrap_or (position (λ other. bytes_eq other name) names) (length names)
+
+-- whether a value is null
+abbrev pub is_null : Data → Bool
+is_null d = is_some (as_null d)

@@ -1,12 +1,11 @@
 ghost use Rattle.std.specs.Prelude.{◌≡◌, ◌≤◌, length, IfOk};
-ghost use Rattle.std.specs.List.{list_any};
-ghost use Rattle.std.specs.Str.{bytes_eq};
 ghost use Rattle.serde_json.specs.View.{view, items_view};
-ghost use Rattle.dq_script.specs.Parts.{Answers};
-ghost use Rattle.dq_script.specs.Columns.{sort_of, column_of, columns_in, columns_of, repeats};
+ghost use Rattle.dq_script.specs.Readings.{Answers};
+ghost use Rattle.dq_script.specs.Arrays.{values_after};
+ghost use Rattle.dq_script.specs.Columns.{sort_of, column_parts, column_of, next_column, no_columns, columns_of};
 
 use crate::fault::ScriptFault;
-use crate::parts::{few_items, is_string, read_string, two_items};
+use crate::parts::{is_string, read_new_name, some_items, two_items};
 use dq_base::{Schema, Sort, Sorts, Text, Texts};
 use serde_json::Value;
 use std::alloc::Global;
@@ -31,30 +30,31 @@ fn sort_of(value: &Value) -> Option<Sort>
     None
 }
 
-// A column.
-fn read_column(alloc: Global, value: &Value) -> Result<Column, ScriptFault>
-    ensures { Answers (column_of (view value.now)) result }
+// A column, of a name that no earlier one has.
+fn read_column(alloc: Global, earlier: &[Text], value: &Value) -> Result<Column, ScriptFault>
+    ensures { Answers (column_of earlier.now (view value.now)).value result }
 {
     let Some((name, sort)) = two_items(value) else {
         return Err(ScriptFault::Unbuilt);
     };
-    let Some(sort) = sort_of(sort) else {
-        return Err(ScriptFault::Unbuilt);
+    let name = match read_new_name(alloc, earlier, name) {
+        Ok(name) => name,
+        Err(fault) => return Err(fault),
     };
-    match read_string(alloc, name) {
-        Ok(name) => Ok(Column { name, sort }),
-        Err(fault) => Err(fault),
+    match sort_of(sort) {
+        Some(sort) => Ok(Column { name, sort }),
+        None => Err(ScriptFault::Unbuilt),
     }
 }
 
-// Columns in order, also of one name.
+// Columns in order.
 fn read_all(alloc: Global, items: &[Value]) -> Result<Schema, ScriptFault>
-    ensures { Answers (columns_in (items_view items.now)) result }
+    ensures { Answers (values_after (λ h d. (next_column h d).value) no_columns (items_view items.now)) result }
 {
     let mut names = Texts::new(alloc);
     let mut sorts = Sorts::new(alloc);
     for item in items {
-        let column = match read_column(alloc, item) {
+        let column = match read_column(alloc, names.as_slice(), item) {
             Ok(column) => column,
             Err(fault) => return Err(fault),
         };
@@ -68,39 +68,12 @@ fn read_all(alloc: Global, items: &[Value]) -> Result<Schema, ScriptFault>
     Ok(Schema::new(names, sorts))
 }
 
-// Whether a text is among these.
-fn has_text(texts: &[Text], text: &[u8]) -> bool
-    ensures { result ≡ list_any (λ other. bytes_eq other text.now) texts.now }
-{
-    texts.iter().any(|other| other.bytes() == text)
-}
-
-// Whether some text stands again behind itself.
-fn has_repeats(texts: &[Text]) -> bool
-    ensures { result ≡ repeats texts.now }
-{
-    for (place, text) in texts.iter().enumerate() {
-        if has_text(&texts[place + 1..], text.bytes()) {
-            return true;
-        }
-    }
-    false
-}
-
-// The columns of an extract, whose names differ.
+// The columns of an extract.
 pub fn read_columns(alloc: Global, value: &Value) -> Result<Schema, ScriptFault>
-    ensures read { Answers (columns_of (view value.now)) result }
-    ensures few { IfOk result (λ schema. length schema.names ≤ 64) }
+    ensures { Answers (columns_of (view value.now)).value result }
 {
-    let Some(items) = few_items(value) else {
-        return Err(ScriptFault::Unbuilt);
-    };
-    let schema = match read_all(alloc, items) {
-        Ok(schema) => schema,
-        Err(fault) => return Err(fault),
-    };
-    if has_repeats(schema.names().as_slice()) {
-        return Err(ScriptFault::Unbuilt);
+    match some_items(value) {
+        Some(items) => read_all(alloc, items),
+        None => Err(ScriptFault::Unbuilt),
     }
-    Ok(schema)
 }

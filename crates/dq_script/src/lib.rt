@@ -1,25 +1,41 @@
-//! Reads a script, so far in its first form alone: one extract, one lane that publishes it from a file, and then a batch
-//! of one zone. `specs/FirstForm` says which bytes are of that form, over the JSON that they read as, and which script
-//! they mean.
+//! Reads a script: extracts, lanes of steps, a schedule, and what is wanted to fail, from one JSON text.
 //!
-//! The layer above may rely on this: `read` answers a script exactly for the bytes of the first form, and then that one.
-//! It is within the limits, each zone is a valid query of its schema, and it has one extract, one lane and two steps.
+//! `specs/Scripts` says which script bytes mean, or the first reason against them, over the JSON that they read as. A part
+//! is a `Reading` (`specs/Readings`): its value, and the path of its first fault where it has none. Extracts, filters,
+//! zones, steps and faults are read by definitions of their own; a name of an extract or column is its number at once.
+//! What the whole walk gives is a draft (`specs/Drafts`), whose limits and names are tested last (`specs/Reasons`).
+//!
+//! The layer above may rely on this: `read` answers a script exactly where the bytes mean one, and then that one. It is
+//! within the limits, and its numbers of extracts and lanes are in range; that its zones are valid queries isn't said.
+//! `is_single` tells scripts of one lane that publishes once and asks once.
 //!
 //! ```text
 //! let script = dq_script::read(alloc, bytes)?;
 //! ```
 #![tactic(auto)]
 
+mod arrays;
 mod columns;
-mod extract;
+mod draft;
+mod extracts;
 mod fault;
-mod members;
+mod faults;
+mod filters;
+mod known;
+mod lawful;
+mod making;
+mod measures;
+mod names;
+mod objects;
 mod parts;
 mod reading;
-mod session;
+mod single;
+mod small;
+mod step;
 #[cfg(test)]
 mod tests;
 mod zone;
 
 pub use fault::ScriptFault;
 pub use reading::read;
+pub use single::is_single;

@@ -1,11 +1,20 @@
-ghost use Rattle.std.specs.Prelude.{◌≡◌, option_map};
+ghost use Rattle.std.specs.Prelude.{◌≡◌, ◌<◌, ◌≤◌, ◌^◌, length, option_map, position};
+ghost use Rattle.std.specs.List.{list_any};
+ghost use Rattle.std.specs.Str.{bytes_eq};
 ghost use Rattle.serde_json.specs.View.{view, items_view};
-ghost use Rattle.dq_script.specs.Parts.{is_string, string_of, only, only_item, two, two_items, few, few_items, Answers};
+ghost use Rattle.dq_script.specs.Readings.{Answers};
+ghost use Rattle.dq_script.specs.Parts.{is_string, string_of, new_name, two, two_items, some, some_items, number_of, place_in, is_null};
 
 use crate::fault::ScriptFault;
 use dq_base::Text;
 use serde_json::Value;
 use std::alloc::Global;
+
+// The largest whole number.
+pub const MOST_WHOLE: u64 = 9223372036854775807;
+
+// The largest number that names a place.
+pub const MOST_PLACE: u64 = 4294967295;
 
 // Whether a value is this string.
 pub fn is_string(value: &Value, text: &[u8]) -> bool
@@ -15,6 +24,13 @@ pub fn is_string(value: &Value, text: &[u8]) -> bool
         Some(string) => string.as_bytes() == text,
         None => false,
     }
+}
+
+// Whether a value is null.
+pub fn is_null(value: &Value) -> bool
+    ensures { result ≡ is_null (view value.now) }
+{
+    value.as_null().is_some()
 }
 
 // A copy of a string that isn't empty.
@@ -33,19 +49,29 @@ pub fn read_string(alloc: Global, value: &Value) -> Result<Text, ScriptFault>
     }
 }
 
-// The one item.
-pub fn only(items: &[Value]) -> Option<&Value>
-    ensures { option_map (λ v. view v.now) result ≡ only (items_view items.now) }
+// Whether a text is among these.
+fn has_text(texts: &[Text], text: &[u8]) -> bool
+    ensures { result ≡ list_any (λ other. bytes_eq other text.now) texts.now }
 {
-    if items.len() == 1 {
-        Some(&items[0])
-    } else {
-        None
+    texts.iter().any(|other| other.bytes() == text)
+}
+
+// A copy of a string that isn't empty, and none of these. The cost is their number times its length.
+pub fn read_new_name(alloc: Global, earlier: &[Text], value: &Value) -> Result<Text, ScriptFault>
+    ensures { Answers (new_name earlier.now (view value.now)) result }
+{
+    let name = match read_string(alloc, value) {
+        Ok(name) => name,
+        Err(fault) => return Err(fault),
+    };
+    if has_text(earlier, name.bytes()) {
+        return Err(ScriptFault::Unbuilt);
     }
+    Ok(name)
 }
 
 // The two items.
-pub fn two(items: &[Value]) -> Option<(&Value, &Value)>
+fn two(items: &[Value]) -> Option<(&Value, &Value)>
     ensures { option_map (λ p. (view p.0.now, view p.1.now)) result ≡ two (items_view items.now) }
 {
     if items.len() == 2 {
@@ -55,26 +81,6 @@ pub fn two(items: &[Value]) -> Option<(&Value, &Value)>
     }
 }
 
-// The items, where there are 1 to 64.
-fn few(items: &[Value]) -> Option<&[Value]>
-    ensures { option_map (λ v. items_view v.now) result ≡ few (items_view items.now) }
-{
-    if items.is_empty() {
-        return None;
-    }
-    if items.len() > 64 {
-        return None;
-    }
-    Some(items)
-}
-
-// The item of an array of one.
-pub fn only_item(value: &Value) -> Option<&Value>
-    ensures { option_map (λ v. view v.now) result ≡ only_item (view value.now) }
-{
-    only(value.as_array()?.as_slice())
-}
-
 // The items of an array of two.
 pub fn two_items(value: &Value) -> Option<(&Value, &Value)>
     ensures { option_map (λ p. (view p.0.now, view p.1.now)) result ≡ two_items (view value.now) }
@@ -82,9 +88,50 @@ pub fn two_items(value: &Value) -> Option<(&Value, &Value)>
     two(value.as_array()?.as_slice())
 }
 
-// The items of an array of 1 to 64.
-pub fn few_items(value: &Value) -> Option<&[Value]>
-    ensures { option_map (λ v. items_view v.now) result ≡ few_items (view value.now) }
+// The items, where there are some.
+fn some(items: &[Value]) -> Option<&[Value]>
+    ensures { option_map (λ v. items_view v.now) result ≡ some (items_view items.now) }
 {
-    few(value.as_array()?.as_slice())
+    if items.is_empty() { None } else { Some(items) }
+}
+
+// The items of an array that isn't empty.
+pub fn some_items(value: &Value) -> Option<&[Value]>
+    ensures { option_map (λ v. items_view v.now) result ≡ some_items (view value.now) }
+{
+    some(value.as_array()?.as_slice())
+}
+
+// A whole number from the one to the other.
+pub fn number_of(value: &Value, low: u64, high: u64) -> Option<u64>
+    ensures { result ≡ number_of low high (view value.now) }
+{
+    let whole = value.as_i64()?;
+    if whole < 0 {
+        return None;
+    }
+    let number = whole as u64;
+    if low <= number && number <= high {
+        Some(number)
+    } else {
+        None
+    }
+}
+
+// The place of a text among these.
+fn place_of(texts: &[Text], text: &[u8]) -> Option<usize>
+    ensures { result ≡ position (λ other. bytes_eq other text.now) texts.now }
+{
+    texts.iter().position(|other| other.bytes() == text)
+}
+
+// The place of the first of this name, and the number of names where there is none.
+pub fn place_in(names: &[Text], name: &[u8]) -> usize
+    ensures place { result ≡ place_in names.now name.now }
+    ensures within { result ≤ length names.now }
+{
+    match place_of(names, name) {
+        Some(place) => place,
+        None => names.len(),
+    }
 }

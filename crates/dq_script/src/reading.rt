@@ -1,119 +1,121 @@
-ghost use Rattle.std.specs.Prelude.{◌≡◌, [], ◌∷◌, true, Some, IfOk};
+ghost use Rattle.std.specs.Prelude.{◌≡◌, true, Some, IfOk, option_and_then};
 ghost use Rattle.serde_json.specs.View.{view};
 ghost use Rattle.dq_base.specs.Scripts.{IsScript};
-ghost use Rattle.dq_script.specs.Parts.{Answers};
-ghost use Rattle.dq_script.specs.FirstForm.{is_one, lane_with, script_with, script_over, script_of, first_form, AnswersScript};
-ghost use Rattle.dq_script.specs.First.{IsFirst, all_valid};
+ghost use Rattle.dq_script.specs.Drafts.{start_of, draft_over, draft_of};
+ghost use Rattle.dq_script.specs.Readings.{Answers};
+ghost use Rattle.dq_script.specs.Columns.{extracts_fit};
+ghost use Rattle.dq_script.specs.Scripts.{script_in, script_of, AnswersScript};
+ghost use Rattle.dq_script.specs.Tests.{fitting};
 
-use crate::extract::{Extract, read_extract};
+use crate::draft::{Draft, read_session};
+use crate::extracts::{Extracts, extracts_fit, read_extracts};
 use crate::fault::ScriptFault;
-use crate::members::three_members;
-use crate::session::{Session, read_session};
-use dq_base::{Fails, How, List, Memory, Numbers, Numbers64, Script, Step, Steps};
+use crate::known::Known;
+use crate::lawful::session_fits;
+use crate::making::make_script;
+use crate::objects::has_only;
+use crate::parts::number_of;
+use crate::small::is_small;
+use dq_base::{Memory, Script};
 use serde_json::Value;
 use std::alloc::Global;
 
-// The list of one item.
-fn list_of<T: Drop>(alloc: Global, item: T) -> Result<List<T>, Memory>
-    ensures { IfOk result (λ list. list ≡ item ∷ []) }
+// The extracts, where the form is 1.
+fn read_start(alloc: Global, script: &Value) -> Result<Extracts, ScriptFault>
+    ensures { Answers (start_of (view script.now)).value result }
 {
-    let mut list = List::new(alloc);
-    list.push(item)?;
-    Ok(list)
-}
-
-// The lane of a session.
-fn make_lane(alloc: Global, session: Session) -> Result<Steps, Memory>
-    ensures { IfOk result (λ steps. steps ≡ lane_with session) }
-{
-    let queries = list_of(alloc, session.query)?;
-    let mut steps = list_of(
-        alloc,
-        Step::Publish {
-            source: 0,
-            how: How::Replace,
-            file: session.file,
-        },
-    )?;
-    steps.push(Step::Batch(queries))?;
-    Ok(steps)
-}
-
-// The script of an extract and a session.
-fn make_script(alloc: Global, extract: Extract, session: Session) -> Result<Script, Memory>
-    ensures { IfOk result (λ script. script ≡ script_with extract session) }
-{
-    let lane = make_lane(alloc, session)?;
-    let names = list_of(alloc, extract.name)?;
-    let schemas = list_of(alloc, extract.schema)?;
-    let lanes = list_of(alloc, lane)?;
-    let none = Fails {
-        dials: Numbers64::new(alloc),
-        links: Numbers64::new(alloc),
+    let Some(form) = script.get("form") else {
+        return Err(ScriptFault::Unbuilt);
     };
-    let fails = list_of(alloc, none)?;
-    Ok(Script {
-        names,
-        schemas,
-        literal: 64,
-        clever: 64,
-        lanes,
-        schedule: Numbers::new(alloc),
-        fails,
-    })
-}
-
-// Whether a value is the whole number 1.
-fn is_one(value: &Value) -> bool
-    ensures { result ≡ is_one (view value.now) }
-{
-    match value.as_i64() {
-        Some(form) => form == 1,
-        None => false,
-    }
-}
-
-// The script of its extracts and lanes.
-fn read_script(alloc: Global, extracts: &Value, lanes: &Value) -> Result<Script, ScriptFault>
-    ensures { Answers (script_over (view extracts.now) (view lanes.now)) result }
-{
-    let extract = match read_extract(alloc, extracts) {
-        Ok(extract) => extract,
-        Err(fault) => return Err(fault),
+    let Some(_one) = number_of(form, 1, 1) else {
+        return Err(ScriptFault::Unbuilt);
     };
-    let session = match read_session(alloc, &extract, lanes) {
+    let Some(extracts) = script.get("extracts") else {
+        return Err(ScriptFault::Unbuilt);
+    };
+    read_extracts(alloc, extracts)
+}
+
+// What is said over extracts within their limits, where there is no reason against it.
+fn read_within(alloc: Global, extracts: Extracts, script: &Value) -> Result<Draft, ScriptFault>
+    requires { extracts_fit extracts ≡ true }
+    ensures { Answers (option_and_then fitting (draft_over (view script.now) extracts).value) result }
+{
+    let known = Known {
+        extracts: &extracts,
+    };
+    let session = match read_session(alloc, known, script) {
         Ok(session) => session,
         Err(fault) => return Err(fault),
     };
-    match make_script(alloc, extract, session) {
+    if session_fits(extracts.names.len(), &session) {
+        return Ok(Draft { extracts, session });
+    }
+    Err(ScriptFault::Unbuilt)
+}
+
+// What is said over these extracts, where there is no reason against it.
+fn read_over(alloc: Global, extracts: Extracts, script: &Value) -> Result<Draft, ScriptFault>
+    ensures { Answers (option_and_then fitting (draft_over (view script.now) extracts).value) result }
+{
+    if extracts_fit(&extracts) {
+        return read_within(alloc, extracts, script);
+    }
+    Err(ScriptFault::Unbuilt)
+}
+
+// The draft of a small script against which there is no reason.
+fn read_small(alloc: Global, script: &Value) -> Result<Draft, ScriptFault>
+    ensures { Answers (option_and_then fitting (draft_of (view script.now)).value) result }
+{
+    if !has_only(
+        script,
+        &[
+            "form", "extracts", "literal", "clever", "lanes", "schedule", "faults",
+        ],
+    ) {
+        return Err(ScriptFault::Unbuilt);
+    }
+    match read_start(alloc, script) {
+        Ok(extracts) => read_over(alloc, extracts, script),
+        Err(fault) => Err(fault),
+    }
+}
+
+// The draft of a script against which there is no reason. Large ones are refused before their names are compared.
+fn read_draft(alloc: Global, script: &Value) -> Result<Draft, ScriptFault>
+    ensures { Answers (option_and_then fitting (draft_of (view script.now)).value) result }
+{
+    if is_small(script) {
+        return read_small(alloc, script);
+    }
+    Err(ScriptFault::Unbuilt)
+}
+
+// The script of a value.
+fn read_value(alloc: Global, value: &Value) -> Result<Script, ScriptFault>
+    ensures script { AnswersScript (script_in (Some (view value.now))) result }
+    ensures fits { IfOk result IsScript }
+{
+    let draft = match read_draft(alloc, value) {
+        Ok(draft) => draft,
+        Err(fault) => return Err(fault),
+    };
+    match make_script(alloc, draft) {
         Ok(script) => Ok(script),
         Err(Memory) => Err(ScriptFault::Memory),
     }
 }
 
-// The script of a value.
-fn read_value(alloc: Global, value: &Value) -> Result<Script, ScriptFault>
-    ensures { Answers (script_of (view value.now)) result }
-{
-    let Some((form, extracts, lanes)) = three_members(value, "form", "extracts", "lanes") else {
-        return Err(ScriptFault::Unbuilt);
-    };
-    if !is_one(form) {
-        return Err(ScriptFault::Unbuilt);
-    }
-    read_script(alloc, extracts, lanes)
-}
-
-/// The script that these bytes are, in the first form: one extract, and one lane of a publication and a batch of one
-/// zone.
+/// The script that these bytes are.
 ///
-/// `Unbuilt` comes exactly where the bytes aren't of the first form, also where they are no JSON. `Memory` may come at
-/// any bytes. An `Err` leaves nothing. The time is that of reading the JSON.
+/// `Unbuilt` comes exactly where they are no script: where they are no JSON or JSON of another shape, where a limit is
+/// passed, and where a publication names no extract or a turn or fault no lane. `Memory` may come at any bytes. An `Err`
+/// leaves nothing. The time is that of reading the JSON, and that of comparing the names of extracts with each other,
+/// those of an extract's columns with each other, and each name with those that it may mean.
 pub fn read(alloc: Global, bytes: &[u8]) -> Result<Script, ScriptFault>
-    ensures script { AnswersScript (first_form bytes.now) result }
+    ensures script { AnswersScript (script_of bytes.now) result }
     ensures fits { IfOk result IsScript }
-    ensures valid { IfOk result (λ s. all_valid s ≡ true) }
-    ensures shape { IfOk result IsFirst }
 {
     match Value::from_slice(alloc, bytes) {
         Ok(value) => read_value(alloc, &value),

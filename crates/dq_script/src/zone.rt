@@ -1,159 +1,200 @@
-ghost use Rattle.std.specs.Prelude.{◌≡◌, ◌≤◌, length, position};
-ghost use Rattle.std.specs.Str.{bytes_eq};
-ghost use Rattle.serde_json.specs.View.{view, items_view};
-ghost use Rattle.dq_base.specs.Validity.{is_whole};
-ghost use Rattle.dq_script.specs.Parts.{Answers};
-ghost use Rattle.dq_script.specs.Zones.{column_at, rows_of, sum_of, measure_of, measures_in, measures_of, dim_of, query_with, zone_of};
+ghost use Rattle.std.specs.Prelude.{◌≡◌, [], None, option_map, codes};
+ghost use Rattle.serde_json.specs.View.{view};
+ghost use Rattle.dq_script.specs.Arrays.{array_of};
+ghost use Rattle.dq_script.specs.Filters.{column_at, column_in, filter_of};
+ghost use Rattle.dq_script.specs.Objects.{wanted, optional};
+ghost use Rattle.dq_script.specs.Readings.{Answers, given};
+ghost use Rattle.dq_script.specs.Zones.{way_of, key_of, top_of, measure_of, source_at, asked_of, zone_with, zone_parts, zone_of};
 
-use crate::extract::Extract;
+use crate::arrays::{Reads, read_array};
 use crate::fault::ScriptFault;
-use crate::members::three_members;
-use crate::parts::{few_items, is_string, only_item, two_items};
-use dq_base::{
-    Measure, Measures, Numbers, OrderKeys, Predicates, Query, Schema, Sort, Sorts, Text,
-};
+use crate::filters::ReadsFilter;
+use crate::known::{Known, columns_at, source_at};
+use crate::measures::ReadsMeasure;
+use crate::names::{Names, column_at};
+use crate::objects::has_only;
+use crate::parts::{MOST_PLACE, is_string, number_of, two_items};
+use dq_base::{Measures, Numbers, OrderKey, OrderKeys, Predicates, Query};
 use serde_json::Value;
 use std::alloc::Global;
 
-// The place of a text among these.
-fn place_of(texts: &[Text], text: &[u8]) -> Option<usize>
-    ensures { result ≡ position (λ other. bytes_eq other text.now) texts.now }
-{
-    texts.iter().position(|other| other.bytes() == text)
+// Reads the number of a column of these names.
+#[derive(Drop)]
+struct ReadsColumn<'a> {
+    names: Names<'a>,
 }
 
-// The place of the column that a value names.
-fn column_at(schema: &Schema, value: &Value) -> Option<u32>
-    requires { length schema.now.names ≤ 64 }
-    ensures { result ≡ column_at schema.now.names (view value.now) }
-{
-    let name = value.as_str()?;
-    match place_of(schema.names().as_slice(), name.as_bytes()) {
-        Some(place) => Some(place as u32),
-        None => None,
-    }
-}
+impl<'a> Reads for ReadsColumn<'a> {
+    type Out = u32;
 
-// Whether a column holds whole numbers.
-fn is_whole(sorts: &Sorts, place: u32) -> bool
-    ensures { result ≡ is_whole sorts.now place }
-{
-    match sorts.get(place as u64) {
-        Some(Sort::Whole) => true,
-        Some(Sort::Word) => false,
-        None => false,
+    ghost reading = { λ s d. column_at s.names.names.now d };
+
+    fn read(&self, _alloc: Global, value: &Value) -> Result<u32, ScriptFault> {
+        match column_at(self.names, value) {
+            Some(column) => Ok(column),
+            None => Err(ScriptFault::Unbuilt),
+        }
     }
 }
 
-// The count of rows, where that is written.
-fn rows_of(value: &Value) -> Option<Measure>
-    ensures { result ≡ rows_of (view value.now) }
+// Whether an order goes down, by its word.
+fn way_of(value: &Value) -> Option<bool>
+    ensures { result ≡ way_of (view value.now) }
 {
-    if is_string(only_item(value)?, b"rows") {
-        Some(Measure::Rows)
-    } else {
-        None
+    if is_string(value, b"up") {
+        return Some(false);
+    }
+    if is_string(value, b"down") {
+        return Some(true);
+    }
+    None
+}
+
+// A key of an order.
+fn key_of(value: &Value) -> Option<OrderKey>
+    ensures { result ≡ (key_of (view value.now)).value }
+{
+    let (place, way) = two_items(value)?;
+    let place = number_of(place, 0, MOST_PLACE)? as u32;
+    let down = way_of(way)?;
+    Some(OrderKey { place, down })
+}
+
+// Reads a key of an order.
+#[derive(Drop)]
+struct ReadsKey;
+
+impl Reads for ReadsKey {
+    type Out = OrderKey;
+
+    ghost reading = { λ s d. (key_of d).value };
+
+    fn read(&self, _alloc: Global, value: &Value) -> Result<OrderKey, ScriptFault> {
+        match key_of(value) {
+            Some(key) => Ok(key),
+            None => Err(ScriptFault::Unbuilt),
+        }
     }
 }
 
-// The sum of a column of whole numbers, where that is written.
-fn sum_of(schema: &Schema, value: &Value) -> Option<Measure>
-    requires { length schema.now.names ≤ 64 }
-    ensures { result ≡ sum_of schema.now (view value.now) }
+// The filters of a zone.
+fn read_filters(alloc: Global, names: Names, zone: &Value) -> Result<Predicates, ScriptFault>
+    ensures { Answers (optional [] (codes "filters") (array_of (filter_of names.entry.names.now)) (view zone.now)).value result }
 {
-    let (word, name) = two_items(value)?;
-    if !is_string(word, b"sum") {
-        return None;
-    }
-    let place = column_at(schema, name)?;
-    if is_whole(schema.sorts(), place) {
-        Some(Measure::Sum(place))
-    } else {
-        None
+    match zone.get("filters") {
+        Some(filters) => read_array(&ReadsFilter { names }, alloc, filters),
+        None => Ok(Predicates::new(alloc)),
     }
 }
 
-// A measure.
-fn measure_of(schema: &Schema, value: &Value) -> Option<Measure>
-    requires { length schema.now.names ≤ 64 }
-    ensures { result ≡ measure_of schema.now (view value.now) }
+// The columns by which a zone groups.
+fn read_dims(alloc: Global, names: Names, zone: &Value) -> Result<Numbers, ScriptFault>
+    ensures { Answers (optional [] (codes "by") (array_of (column_in names.entry.names.now)) (view zone.now)).value result }
 {
-    match rows_of(value) {
-        Some(rows) => Some(rows),
-        None => sum_of(schema, value),
+    match zone.get("by") {
+        Some(columns) => read_array(&ReadsColumn { names }, alloc, columns),
+        None => Ok(Numbers::new(alloc)),
     }
-}
-
-// Measures in order.
-fn read_all(alloc: Global, schema: &Schema, items: &[Value]) -> Result<Measures, ScriptFault>
-    requires { length schema.now.names ≤ 64 }
-    ensures { Answers (measures_in schema.now (items_view items.now)) result }
-{
-    let mut measures = Measures::new(alloc);
-    for item in items {
-        let Some(measure) = measure_of(schema, item) else {
-            return Err(ScriptFault::Unbuilt);
-        };
-        let Ok(()) = measures.push(measure) else {
-            return Err(ScriptFault::Memory);
-        };
-    }
-    Ok(measures)
 }
 
 // What a zone shows.
-fn read_measures(alloc: Global, schema: &Schema, value: &Value) -> Result<Measures, ScriptFault>
-    requires { length schema.now.names ≤ 64 }
-    ensures { Answers (measures_of schema.now (view value.now)) result }
+fn read_measures(alloc: Global, names: Names, zone: &Value) -> Result<Measures, ScriptFault>
+    ensures { Answers (optional [] (codes "show") (array_of (measure_of names.entry.names.now)) (view zone.now)).value result }
 {
-    match few_items(value) {
-        Some(items) => read_all(alloc, schema, items),
+    match zone.get("show") {
+        Some(measures) => read_array(&ReadsMeasure { names }, alloc, measures),
+        None => Ok(Measures::new(alloc)),
+    }
+}
+
+// The order of a zone.
+fn read_order(alloc: Global, zone: &Value) -> Result<OrderKeys, ScriptFault>
+    ensures { Answers (optional [] (codes "order") (array_of key_of) (view zone.now)).value result }
+{
+    match zone.get("order") {
+        Some(keys) => read_array(&ReadsKey, alloc, keys),
+        None => Ok(OrderKeys::new(alloc)),
+    }
+}
+
+// How many rows of a zone are wanted, where that is said.
+fn read_top(zone: &Value) -> Result<Option<u32>, ScriptFault>
+    ensures { Answers (optional None (codes "top") top_of (view zone.now)).value result }
+{
+    let Some(top) = zone.get("top") else {
+        return Ok(None);
+    };
+    match number_of(top, 0, MOST_PLACE) {
+        Some(top) => Ok(Some(top as u32)),
         None => Err(ScriptFault::Unbuilt),
     }
 }
 
-// The place of the column that a zone groups by.
-fn dim_of(schema: &Schema, value: &Value) -> Option<u32>
-    requires { length schema.now.names ≤ 64 }
-    ensures { result ≡ dim_of schema.now.names (view value.now) }
+// What is asked of an extract by its number, whose columns have these names.
+fn read_query(alloc: Global, source: u32, names: Names, zone: &Value) -> Result<Query, ScriptFault>
+    ensures { Answers (option_map (zone_with source) (asked_of names.entry.names.now (view zone.now)).value) result }
 {
-    column_at(schema, only_item(value)?)
-}
-
-// The query of a column and measures.
-fn make_query(alloc: Global, place: u32, measures: Measures) -> Result<Query, ScriptFault>
-    ensures { Answers (Some (query_with (place, measures))) result }
-{
-    let mut dims = Numbers::new(alloc);
-    let Ok(()) = dims.push(place) else {
-        return Err(ScriptFault::Memory);
+    let filters = match read_filters(alloc, names, zone) {
+        Ok(filters) => filters,
+        Err(fault) => return Err(fault),
     };
-    Ok(Query {
-        source: 0,
-        filters: Predicates::new(alloc),
-        dims,
-        measures,
-        order: OrderKeys::new(alloc),
-        top: None,
-    })
-}
-
-// A zone over the extract.
-pub fn read_zone(alloc: Global, extract: &Extract, value: &Value) -> Result<Query, ScriptFault>
-    requires { length extract.now.schema.names ≤ 64 }
-    ensures { Answers (zone_of extract.now (view value.now)) result }
-{
-    let Some((source, by, show)) = three_members(value, "source", "by", "show") else {
-        return Err(ScriptFault::Unbuilt);
+    let dims = match read_dims(alloc, names, zone) {
+        Ok(dims) => dims,
+        Err(fault) => return Err(fault),
     };
-    if !is_string(source, extract.name.bytes()) {
-        return Err(ScriptFault::Unbuilt);
-    }
-    let Some(place) = dim_of(&extract.schema, by) else {
-        return Err(ScriptFault::Unbuilt);
+    let measures = match read_measures(alloc, names, zone) {
+        Ok(measures) => measures,
+        Err(fault) => return Err(fault),
     };
-    match read_measures(alloc, &extract.schema, show) {
-        Ok(measures) => make_query(alloc, place, measures),
+    let order = match read_order(alloc, zone) {
+        Ok(order) => order,
+        Err(fault) => return Err(fault),
+    };
+    match read_top(zone) {
+        Ok(top) => Ok(Query {
+            source,
+            filters,
+            dims,
+            measures,
+            order,
+            top,
+        }),
         Err(fault) => Err(fault),
+    }
+}
+
+// The source of a zone.
+fn source_of(known: Known, zone: &Value) -> Option<u32>
+    ensures { result ≡ (wanted (codes "source") (λ s. given (source_at known.entry.extracts.now.names s)) (view zone.now)).value }
+{
+    source_at(known, zone.get("source")?)
+}
+
+// The source of a zone, and what is asked of it.
+fn read_parts(alloc: Global, known: Known, zone: &Value) -> Result<Query, ScriptFault>
+    ensures { Answers (zone_parts known.entry.extracts.now (view zone.now)).value result }
+{
+    let Some(source) = source_of(known, zone) else {
+        return Err(ScriptFault::Unbuilt);
+    };
+    read_query(alloc, source, columns_at(known, source), zone)
+}
+
+// Reads a zone over these extracts.
+#[derive(Drop)]
+pub struct ReadsZone<'a> {
+    pub known: Known<'a>,
+}
+
+impl<'a> Reads for ReadsZone<'a> {
+    type Out = Query;
+
+    ghost reading = { λ s d. (zone_of s.known.extracts.now d).value };
+
+    fn read(&self, alloc: Global, value: &Value) -> Result<Query, ScriptFault> {
+        if !has_only(value, &["source", "filters", "by", "show", "order", "top"]) {
+            return Err(ScriptFault::Unbuilt);
+        }
+        read_parts(alloc, self.known, value)
     }
 }

@@ -1,4 +1,6 @@
 pub mod Columns
 pub mod Fine
-pub mod First
 pub mod Outcomes
+pub mod Refreshes
+pub mod Scripts
+pub mod Single

@@ -1,4 +1,4 @@
-pub mod FirstRun
+pub mod SingleRun
 pub mod Loading
 pub mod Outcomes
 pub mod Words

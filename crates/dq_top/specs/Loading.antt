@@ -11,7 +11,9 @@ use Rattle.dq_base.specs.declared.value.Value.{Value}
 use Rattle.dq_outside.specs.Reads.{Files}
 use Rattle.dq_extract.specs.Loads.{LoadedFiles}
 use Rattle.dq_extract.specs.Rows.{RowFault, rows_of}
-use Rattle.dq_script.specs.FirstForm.{first_form}
+use Rattle.dq_script.specs.Reasons.{ScriptReason}
+use Rattle.dq_script.specs.Scripts.{script_of}
+use Rattle.dq_script.specs.Single.{is_single}
 
 -- what is loaded, or the first name that isn't held, or the first file that isn't built
 pub data Load (A : Type 0) : Type 0 where
@@ -26,13 +28,17 @@ then_load (Unbuilt name) more = Unbuilt name
 
 -- the script
 
-abbrev pub built_script : List ℕ → Option Script → Load Script
-built_script name None = Unbuilt name
-built_script name (Some script) = Loads script
+-- a script of one lane that publishes once and then asks once
+abbrev pub single_script : List ℕ → Script → Load Script
+single_script name script = if is_single script then Loads script else Unbuilt name
+
+abbrev pub built_script : List ℕ → Result Script ScriptReason → Load Script
+built_script name (Err reason) = Unbuilt name
+built_script name (Ok script) = single_script name script
 
 abbrev pub script_in : List ℕ → Option (List ℕ) → Load Script
 script_in name None = Missing name
-script_in name (Some bytes) = if nat_lt script_room (length bytes) then Unbuilt name else built_script name (first_form bytes)
+script_in name (Some bytes) = if nat_lt script_room (length bytes) then Unbuilt name else built_script name (script_of bytes)
 
 -- the files of publish steps
 

@@ -1,5 +1,5 @@
 -- What the top call answers, by what it tells.
-use Rattle.std.specs.Prelude.{◌≡◌, ⊤, ℕ, Bool, true, false, ◌||◌, List, [], ◌∷◌, ◌++◌, Option, Some, None, IfSome, codes, option_map, if◌then◌else◌, Result, Ok, Err}
+use Rattle.std.specs.Prelude.{◌≡◌, ◌⊎◌, ⊤, ℕ, Bool, true, false, ◌||◌, List, [], ◌∷◌, ◌++◌, Option, Some, None, IfSome, codes, option_map, if◌then◌else◌, Result, Ok, Err}
 use Rattle.std.specs.Arc.{arc_value}
 use Rattle.std.specs.List.{list_any}
 use Rattle.std.specs.declared.alloc.Global.{Global}
@@ -78,6 +78,10 @@ any_wanting results = list_any (λ steps. list_any step_wanting steps) results
 abbrev pub status_of : Option Fault → List (List StepResult) → ℕ
 status_of None results = if any_refused results then 1 else 0
 status_of (Some f) results = fault_status f
+
+-- all is answered, some zones are refused for their queries, or memory was wanting
+abbrev pub IsServed : ℕ → Type 0
+IsServed status = (status ≡ 0) ⊎ (status ≡ 1) ⊎ (status ≡ 6)
 
 -- wholeness
 

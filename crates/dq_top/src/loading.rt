@@ -3,15 +3,16 @@ ghost use Rattle.dq_base.specs.Limits.{all_room, cell_room};
 ghost use Rattle.dq_base.specs.Scripts.{IsScript, sources_of};
 ghost use Rattle.dq_base.specs.Versions.{IsVersion, cells_of};
 ghost use Rattle.dq_extract.specs.Loads.{AreOf};
-ghost use Rattle.dq_script.specs.First.{IsFirst, all_valid};
-ghost use Rattle.dq_top.specs.Loading.{IsAmong, files_read, first_file_of, loaded_of, names_read, publications, script_in, version_in, versions_in};
+ghost use Rattle.dq_script.specs.Scripts.{script_of};
+ghost use Rattle.dq_top.specs.Loading.{IsAmong, built_script, files_read, first_file_of, loaded_of, names_read, publications, script_in, version_in, versions_in};
+ghost use Rattle.dq_top.specs.SingleRun.{IsSingle, first_source_of};
 ghost use Rattle.dq_top.specs.Outcomes.{AnswersLoad, IsOfLoading, NamesFault, NamesUnbuilt, ReadCause};
 
 use crate::fault::Fault;
 use dq_base::{Memory, Schema, Script, Step, Text};
 use dq_extract::{LoadFault, Loaded, Segment, SegmentList, load};
 use dq_outside::{Folder, FolderFault};
-use dq_script::{ScriptFault, read};
+use dq_script::{ScriptFault, is_single, read};
 use std::alloc::Global;
 use std::sync::Arc;
 
@@ -50,6 +51,26 @@ fn ungiven(alloc: Global, name: &Text, fault: FolderFault) -> Fault
     }
 }
 
+/// The script that a file's bytes mean, where one lane alone is played.
+fn built(alloc: Global, name: &Text, bytes: &[u8]) -> Result<Script, Fault>
+    ensures told { AnswersLoad (built_script name.now (script_of bytes.now)) (λ n. n ≡ name.now) result }
+    ensures kind { IfErr result (NamesUnbuilt name.now) }
+    ensures fits { IfOk result IsScript }
+    ensures single { IfOk result IsSingle }
+{
+    match read(alloc, bytes) {
+        Ok(script) => {
+            if is_single(&script) {
+                Ok(script)
+            } else {
+                Err(unbuilt(alloc, name))
+            }
+        }
+        Err(ScriptFault::Unbuilt) => Err(unbuilt(alloc, name)),
+        Err(ScriptFault::Memory) => Err(Fault::Memory),
+    }
+}
+
 /// Reads the script of that name.
 pub fn read_script<F: Folder>(alloc: Global, name: &Text, folder: &mut F) -> Result<Script, Fault>
     ensures kept { F.files folder.new ≡ F.files folder.old }
@@ -58,20 +79,15 @@ pub fn read_script<F: Folder>(alloc: Global, name: &Text, folder: &mut F) -> Res
     ensures cause { IfErr result (λ f. ReadCause (F.faults folder.old) (F.faults folder.new) (F.last_fault folder.new) (Some f)) }
     ensures kind { IfErr result IsOfLoading }
 
-    // It is of the first form.
+    // It has one lane, which publishes a source by replace and then asks a batch.
     ensures fits { IfOk result IsScript }
-    ensures first { IfOk result IsFirst }
-    ensures valid { IfOk result (λ script. all_valid script ≡ true) }
+    ensures single { IfOk result IsSingle }
 {
     let bytes = match folder.read(alloc, name, SCRIPT_BYTES) {
         Ok(bytes) => bytes,
         Err(fault) => return Err(ungiven(alloc, name, fault)),
     };
-    match read(alloc, bytes.bytes()) {
-        Ok(script) => Ok(script),
-        Err(ScriptFault::Unbuilt) => Err(unbuilt(alloc, name)),
-        Err(ScriptFault::Memory) => Err(Fault::Memory),
-    }
+    built(alloc, name, bytes.bytes())
 }
 
 /// Loads the file of that name, where so many bytes and cells are left.
@@ -105,9 +121,9 @@ pub fn load_file<F: Folder>(
     }
 }
 
-/// The file that a script of the first form publishes.
-fn first_file(script: &Script) -> &Text
-    requires { IsFirst script.now }
+/// The file that the first step publishes.
+fn published_file(script: &Script) -> &Text
+    requires { IsSingle script.now }
     ensures { result.now ≡ first_file_of script.now.lanes }
 {
     let Some(steps) = script.lanes.get(0) else {
@@ -119,14 +135,29 @@ fn first_file(script: &Script) -> &Text
     file
 }
 
-/// The schema of a script of the first form.
-pub fn first_schema(script: &Script) -> &Schema
+/// The source that the first step publishes.
+pub fn published_source(script: &Script) -> u32
+    requires { IsSingle script.now }
+    ensures { result ≡ first_source_of script.now.lanes }
+{
+    let Some(steps) = script.lanes.get(0) else {
+        unreachable!();
+    };
+    let Some(Step::Publish { source, .. }) = steps.get(0) else {
+        unreachable!();
+    };
+    *source
+}
+
+/// The schema of the source that the first step publishes.
+pub fn published_schema(script: &Script) -> &Schema
     requires fits { IsScript script.now }
-    requires first { IsFirst script.now }
-    ensures schema { slice_get script.now.schemas 0 ≡ Some result.now }
+    requires single { IsSingle script.now }
+    ensures schema { slice_get script.now.schemas (first_source_of script.now.lanes) ≡ Some result.now }
     ensures columns { 0 < length result.now.names }
 {
-    let Some(schema) = script.schemas.get(0) else {
+    let place = u64::from(published_source(script));
+    let Some(schema) = script.schemas.get(place) else {
         unreachable!();
     };
     schema
@@ -148,7 +179,7 @@ fn load_segments<F: Folder>(
     folder: &mut F,
 ) -> Result<SegmentList, Fault>
     requires fits { IsScript script.now }
-    requires first { IsFirst script.now }
+    requires single { IsSingle script.now }
     ensures told { IfSome (F.files folder.old) (λ files. AnswersLoad (versions_in files all_room cell_room (publications script.now)) (λ n. IsAmong n (files_read files all_room cell_room (publications script.now))) result) }
     ensures later { F.faults folder.old ≤ F.faults folder.new }
     ensures cause { IfErr result (λ f. ReadCause (F.faults folder.old) (F.faults folder.new) (F.last_fault folder.new) (Some f)) }
@@ -157,8 +188,8 @@ fn load_segments<F: Folder>(
     ensures cells { IfOk result (λ segments. sum_by cells_of segments ≤ cell_room) }
     ensures versions { IfOk result (λ segments. All IsVersion segments) }
 {
-    let schema = first_schema(script);
-    let file = first_file(script);
+    let schema = published_schema(script);
+    let file = published_file(script);
     let segment = match load_file(alloc, schema, ALL_BYTES, CELLS, file, folder) {
         Ok(segment) => segment,
         Err(fault) => return Err(fault),
@@ -176,8 +207,7 @@ pub fn load_script<F: Folder>(alloc: Global, name: &Text, folder: &mut F) -> Res
     ensures later { F.faults folder.old ≤ F.faults folder.new }
     ensures cause { IfErr result (λ f. ReadCause (F.faults folder.old) (F.faults folder.new) (F.last_fault folder.new) (Some f)) }
     ensures kind { IfErr result IsOfLoading }
-    ensures first { IfOk result (λ loaded. IsFirst loaded.script) }
-    ensures valid { IfOk result (λ loaded. all_valid loaded.script ≡ true) }
+    ensures single { IfOk result (λ loaded. IsSingle loaded.script) }
 {
     let script = match read_script(alloc, name, folder) {
         Ok(script) => script,

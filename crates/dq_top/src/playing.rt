@@ -1,12 +1,10 @@
-ghost use Rattle.std.specs.Prelude.{◌≡◌, true, IfOk};
+ghost use Rattle.std.specs.Prelude.{◌≡◌, IfOk};
 ghost use Rattle.dq_extract.specs.Loads.{segment_of};
 ghost use Rattle.dq_journal.specs.Right.{IsRight};
 ghost use Rattle.dq_journal.specs.Standing.{version_rows};
-ghost use Rattle.dq_script.specs.First.{IsFirst, all_valid};
-ghost use Rattle.dq_top.specs.FirstRun.{first_entries, first_results, first_zones_of};
-ghost use Rattle.dq_top.specs.Outcomes.{any_refused, any_wanting};
+ghost use Rattle.dq_top.specs.SingleRun.{IsSingle, first_source_of, first_zones_of, single_entries, single_results};
 
-use crate::loading::first_schema;
+use crate::loading::{published_schema, published_source};
 use crate::zones::answer_zones;
 use dq_base::{Duplicate, List, Memory, Queries, Script, Step};
 use dq_extract::{Extract, Loaded};
@@ -20,9 +18,9 @@ pub struct Played {
     pub results: LaneResultsList,
 }
 
-/// The zones of a script of the first form.
-fn first_zones(script: &Script) -> &Queries
-    requires { IsFirst script.now }
+/// The zones of the batch.
+fn batch_of(script: &Script) -> &Queries
+    requires { IsSingle script.now }
     ensures { result.now ≡ first_zones_of script.now.lanes }
 {
     let Some(steps) = script.lanes.get(0) else {
@@ -35,12 +33,12 @@ fn first_zones(script: &Script) -> &Queries
 }
 
 /// The extract that the first step publishes.
-fn first_extract(alloc: Global, loaded: &Loaded) -> Result<Extract, Memory>
-    requires { IsFirst loaded.now.script }
+fn published_extract(alloc: Global, loaded: &Loaded) -> Result<Extract, Memory>
+    requires { IsSingle loaded.now.script }
     ensures { IfOk result (λ extract. extract.rows ≡ version_rows (segment_of loaded.now 1 1)) }
 {
     let script = loaded.script();
-    let schema = first_schema(script).duplicate(alloc)?;
+    let schema = published_schema(script).duplicate(alloc)?;
     let Some(segment) = loaded.segment(1, 1) else {
         unreachable!();
     };
@@ -48,8 +46,8 @@ fn first_extract(alloc: Global, loaded: &Loaded) -> Result<Extract, Memory>
 }
 
 /// The journal of one publication, one admission and one end.
-fn first_journal(alloc: Global) -> Result<Journal, Memory>
-    ensures { IfOk result (λ journal. journal.entries ≡ first_entries) }
+fn single_journal(alloc: Global) -> Result<Journal, Memory>
+    ensures { IfOk result (λ journal. journal.entries ≡ single_entries) }
 {
     let mut journal = Journal::new(alloc);
     journal.reserve(3)?;
@@ -65,7 +63,7 @@ fn first_journal(alloc: Global) -> Result<Journal, Memory>
 
 /// The results of a lane that published and was admitted.
 fn results_of(alloc: Global, outcomes: ZoneResults) -> Result<LaneResultsList, Memory>
-    ensures { IfOk result (λ results. results ≡ first_results outcomes) }
+    ensures { IfOk result (λ results. results ≡ single_results outcomes) }
 {
     let mut lane = List::new(alloc);
     lane.push(StepResult::Published(1))?;
@@ -75,17 +73,23 @@ fn results_of(alloc: Global, outcomes: ZoneResults) -> Result<LaneResultsList, M
     Ok(lanes)
 }
 
-/// Plays a script of the first form.
+/// Plays a script of one lane, which publishes a source and then asks a batch.
 pub fn play(alloc: Global, loaded: &Loaded) -> Result<Played, Memory>
-    requires first { IsFirst loaded.now.script }
-    requires valid { all_valid loaded.now.script ≡ true }
+    requires { IsSingle loaded.now.script }
     ensures right { IfOk result (λ played. IsRight loaded.now played.journal.entries played.results) }
 {
     let script = loaded.script();
-    let extract = first_extract(alloc, loaded)?;
-    let zones = first_zones(script);
-    let outcomes = answer_zones(alloc, &script.schemas, &extract, zones.as_slice())?;
-    let journal = first_journal(alloc)?;
+    let extract = published_extract(alloc, loaded)?;
+    let published = published_source(script);
+    let zones = batch_of(script);
+    let outcomes = answer_zones(
+        alloc,
+        &script.schemas,
+        published,
+        &extract,
+        zones.as_slice(),
+    )?;
+    let journal = single_journal(alloc)?;
     let results = results_of(alloc, outcomes)?;
     Ok(Played { journal, results })
 }

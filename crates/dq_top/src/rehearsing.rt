@@ -1,12 +1,12 @@
 ghost use Rattle.std.specs.Arc.{arc_value};
-ghost use Rattle.std.specs.Prelude.{◌≡◌, ◌⊎◌, ◌↔◌, ◌≤◌, ℕ, List as ListOf, true, false, IfSome, Some, None};
+ghost use Rattle.std.specs.Prelude.{◌≡◌, ◌↔◌, ◌≤◌, ℕ, List as ListOf, true, false, IfSome, Some, None};
 ghost use Rattle.dq_extract.specs.Loads.{LoadedFiles};
 ghost use Rattle.dq_outside.specs.Causes.{Rose};
 ghost use Rattle.dq_outside.specs.Reads.{Files};
 ghost use Rattle.dq_report.specs.Report.{report_text};
-ghost use Rattle.dq_script.specs.First.{IsFirst, all_valid};
+ghost use Rattle.dq_top.specs.SingleRun.{IsSingle};
 ghost use Rattle.dq_top.specs.Loading.{Loads, loaded_of};
-ghost use Rattle.dq_top.specs.Outcomes.{AnswersFiles, AreRight, IsOfPlay, IsWhole, ReadCause, Writes, any_wanting, loaded_files, status_of};
+ghost use Rattle.dq_top.specs.Outcomes.{AnswersFiles, AreRight, IsOfPlay, IsServed, IsWhole, ReadCause, Writes, any_wanting, loaded_files, status_of};
 ghost use Rattle.dq_top.specs.Words.{script_name};
 
 use crate::fault::Fault;
@@ -24,8 +24,7 @@ use std::sync::Arc;
 
 /// Plays what was loaded, and writes the report.
 fn run<S: Sink>(alloc: Global, loaded: Loaded, sink: &mut S) -> Outcome
-    requires first { IsFirst loaded.script }
-    requires valid { all_valid loaded.script ≡ true }
+    requires { IsSingle loaded.script }
     ensures status { result.status ≡ status_of result.told result.results }
     ensures told { IsOfPlay result.told }
     ensures whole { IsWhole result.told (loaded_files result.loaded) }
@@ -35,7 +34,6 @@ fn run<S: Sink>(alloc: Global, loaded: Loaded, sink: &mut S) -> Outcome
     ensures later { S.faults sink.old ≤ S.faults sink.new }
     ensures cause { result.told ≡ Some Fault.Write → Rose (S.faults sink.old) (S.faults sink.new) }
     ensures served { result.told ≡ None → any_wanting result.results ≡ false }
-    ensures fine { result.told ≡ None → result.status ≡ 0 }
 {
     let Ok(played) = play(alloc, &loaded) else {
         return refused(alloc, Fault::Memory);
@@ -87,7 +85,7 @@ pub fn rehearse<F: Folder, S: Sink>(
     ensures complete { (name : ListOf ℕ) (files : Files) (l : LoadedFiles)
         → script_name words.now ≡ Some name → F.files folder.old ≡ Some files → loaded_of files name ≡ Loads l
         → ¬ Rose (F.faults folder.old) (F.faults folder.new) → ¬ Rose (S.faults sink.old) (S.faults sink.new)
-        → (result.status ≡ 0) ⊎ (result.status ≡ 6) }
+        → IsServed result.status }
 {
     let Some(name) = find_script(words.as_slice()) else {
         return refused(alloc, Fault::Usage);

@@ -1,6 +1,6 @@
 use Rattle.std.proofs.Common.{drop}
 use Rattle.serde_json.specs.View.{items_view}
-use Rattle.dq_script.proofs.Columned.{ReadSo}
+use Rattle.dq_script.proofs.Ahead.{ReadSo}
 use Rattle.dq_script.proofs.columns.read_all.Given as goal
 
 abbrev pub invariant-loop-item : goal.invariant-loop-item

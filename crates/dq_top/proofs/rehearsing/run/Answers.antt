@@ -1,14 +1,9 @@
 use Rattle.std.specs.Arc.{arc_value}
 use Rattle.dq_report.specs.Report.{report_text}
-use Rattle.dq_top.proofs.Fine.{fine_status, writes_told}
+use Rattle.dq_top.proofs.Fine.{writes_told}
 use Rattle.dq_top.proofs.rehearsing.run.Goals as goal
 
 pub returns-clause-writes : goal.returns-clause-writes
 returns-clause-writes g c =
     writes_told (g.S.Sink.written c.args.sink.now) (g.S.Sink.written c.write.new.sink) (report_text c.in-Ok.played.journal.entries c.in-Ok.played.results)
     (arc_value c.in-Ok-new.owner) c.any_wanting-wanting.result c.write.result c.told_of-told.result c.told_of-told.ensures c.write.ensures.ok c.write.ensures.err
-
-pub returns-clause-fine : goal.returns-clause-fine
-returns-clause-fine g c =
-    fine_status c.args.loaded c.in-Ok.played.journal.entries c.in-Ok.played.results _ _ _ c.write.result
-    c.in-Ok.ensures.right c.requires.valid c.status.ensures c.told_of-told.ensures c.any_wanting-wanting.ensures
