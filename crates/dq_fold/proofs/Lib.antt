@@ -1,5 +1,7 @@
 pub mod Grouped
 pub mod Inserts
 pub mod Mapped
+pub mod Merged
 pub mod Sizes
 pub mod Tallied
+pub mod Unions
