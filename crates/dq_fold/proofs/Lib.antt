@@ -1,5 +1,6 @@
 pub mod Grouped
 pub mod Inserts
+pub mod Joined
 pub mod Mapped
 pub mod Merged
 pub mod Sizes
