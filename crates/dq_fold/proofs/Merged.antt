@@ -1,5 +1,6 @@
 -- A tally of rows, and one of more rows.
-use Rattle.std.proofs.Common.{◌≡◌, ℕ, pos, ◌+◌, ◌+ℤ◌, if◌then◌else◌, List, [], ◌∷◌, ◌++◌, map, length, refl, sym, ap, ◌∙◌, Some, None, length-append}
+use Rattle.std.proofs.Common.{◌≡◌, ℕ, zero, suc, pos, ◌+◌, ◌^◌, ◌<◌, ◌≤◌, ◌+ℤ◌, if◌then◌else◌, List, [], ◌∷◌, ◌++◌, map, take, length, get_or, refl, sym, ap, ◌∙◌, Some, None, arith, add-one, length-append}
+use Rattle.std.specs.Prelude.{slice_get, slice_set}
 use Rattle.std.proofs.Math.IntN.{+ℤ_assoc, +ℤ_idr}
 use Rattle.std.specs.List.{fold, filter}
 use Rattle.std.specs.Ordering.{is_lt, is_gt, ordering_reverse}
@@ -19,7 +20,8 @@ use Rattle.dq_base.specs.declared.value.Value.{Value}
 use Rattle.dq_base.specs.declared.query.Measure.{Measure}
 use Rattle.dq_base.specs.declared.query.Measure.TheVariants as measure
 use Rattle.dq_fold.specs.Sums.{merged_sums}
-use Rattle.dq_fold.specs.Tallies.{all_seen, greatest, least, lowered, merged, merged_all, raised, sums, tally_of}
+use Rattle.dq_fold.specs.Tallies.{Mergeable, all_seen, count_in, greatest, least, lowered, merged, merged_all, raised, sums, tally_of}
+use Rattle.dq_fold.specs.declared.tally.Tally.{Tally}
 use Rattle.dq_fold.specs.declared.tally.Tally.TheVariants as tally
 use Rattle.dq_fold.proofs.Tallied.{chosen}
 use Rattle.dq_fold.proofs.Unions.{set_of_append}
@@ -125,3 +127,39 @@ merged_tallies rows more [] = refl
 merged_tallies rows more (m ∷ ms) =
     ap (λ t. t ∷ merged_all (map (tally_of rows) ms) (map (tally_of more) ms)) (merged_tally rows more m)
     ∙ ap (λ ts. tally_of (rows ++ more) m ∷ ts) (merged_tallies rows more ms)
+
+length_merged : (ts us : List Tally) → length (merged_all ts us) ≡ length ts
+length_merged ts [] = refl
+length_merged [] (u ∷ us) = refl
+length_merged (t ∷ ts) (u ∷ us) = ap suc (length_merged ts us)
+
+no_longer : (ts us : List Tally) → Mergeable ts us → length us ≤ length ts
+no_longer ts [] m = omega arith
+no_longer [] (u ∷ us) m = absurd m
+no_longer (t ∷ ts) (u ∷ us) m = omega (arith, no_longer ts us m.1)
+
+-- each of the others has a tally at its place, also once those before it are merged
+pub merge_place : (ts us now : List Tally) (i : ℕ) → Mergeable ts us → i < length us → now ≡ merged_all ts (take i us) → i < length now
+merge_place ts us now i m lt e = omega (arith, no_longer ts us m, length_merged ts (take i us), ap length e)
+
+small_here : (ts us : List Tally) (i : ℕ) (t u : Tally) → Mergeable ts us → i < length us → u ≡ get_or us i u → slice_get (merged_all ts (take i us)) i ≡ Some t → count_in t + count_in u ≤ 2 ^ 23
+small_here ts [] i t u m lt eu et = absurd (omega arith)
+small_here [] (w ∷ us) i t u m lt eu et = absurd m
+small_here (v ∷ ts) (w ∷ us) zero t u m lt eu et = let here : v ≡ t = cc in omega (arith, m.0, ap count_in here, ap count_in eu)
+small_here (v ∷ ts) (w ∷ us) (suc i) t u m lt eu et = small_here ts us i t u m.1 (omega arith) eu et
+
+pub merge_small : (ts us now : List Tally) (i : ℕ) (t u : Tally) → Mergeable ts us → i < length us → now ≡ merged_all ts (take i us) → u ≡ get_or us i u → slice_get now i ≡ Some t → count_in t + count_in u ≤ 2 ^ 23
+merge_small ts us now i t u m lt e eu et = small_here ts us i t u m lt eu (ap (λ ws. slice_get ws i) (sym e) ∙ et)
+
+merge_here : (ts us : List Tally) (i : ℕ) (t u : Tally) → Mergeable ts us → i < length us → u ≡ get_or us i u → slice_get (merged_all ts (take i us)) i ≡ Some t
+    → slice_set (merged_all ts (take i us)) i (merged t u) ≡ merged_all ts (take (suc i) us)
+merge_here ts [] i t u m lt eu et = absurd (omega arith)
+merge_here [] (w ∷ us) i t u m lt eu et = absurd m
+merge_here (v ∷ ts) (w ∷ us) zero t u m lt eu et = let here : t ≡ v = cc in ap (λ x. merged x u ∷ ts) here ∙ ap (λ x. merged v x ∷ ts) eu
+merge_here (v ∷ ts) (w ∷ us) (suc i) t u m lt eu et = ap (λ r. merged v w ∷ r) (merge_here ts us i t u m.1 (omega arith) eu et)
+
+-- the next tally of those that are merged from the front
+pub merge_next : (ts us now : List Tally) (i : ℕ) (t u y : Tally) → Mergeable ts us → i < length us → now ≡ merged_all ts (take i us) → u ≡ get_or us i u → slice_get now i ≡ Some t → y ≡ merged t u
+    → slice_set now i y ≡ merged_all ts (take (i + 1) us)
+merge_next ts us now i t u y m lt e eu et ey =
+    rw add-one (ap (λ ws. slice_set ws i y) e ∙ ap (λ w. slice_set (merged_all ts (take i us)) i w) ey ∙ merge_here ts us i t u m lt eu (ap (λ ws. slice_get ws i) (sym e) ∙ et))

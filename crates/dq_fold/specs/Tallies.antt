@@ -157,8 +157,8 @@ merged (tally.Average c t) u = tally.Average c (with_sum t u)
 
 -- each tally with the other at its place
 abbrev pub merged_all : List Tally → List Tally → List Tally
-merged_all [] us = []
-merged_all (t ∷ ts) [] = t ∷ ts
+merged_all ts [] = ts
+merged_all [] (u ∷ us) = []
 merged_all (t ∷ ts) (u ∷ us) = merged t u ∷ merged_all ts us
 
 -- each of the other tallies has one at its place, and the two count at most 2^23
