@@ -1,5 +1,5 @@
 -- The groups of rows, and those of more rows merged into them.
-use Rattle.std.proofs.Common.{◌≡◌, ℕ, ◌+◌, ◌^◌, ◌≤◌, Bool, true, false, ◌||◌, cond, List, [], ◌∷◌, ◌++◌, map, length, refl, sym, ap, ◌∙◌, subst, Some, None, arith}
+use Rattle.std.proofs.Common.{◌≡◌, ℕ, ◌+◌, ◌^◌, ◌≤◌, Bool, true, false, ◌||◌, cond, List, [], ◌∷◌, ◌++◌, map, length, refl, sym, ap, ◌∙◌, subst, Some, None, arith, length-append}
 use Rattle.std.specs.List.{fold, list_any}
 use Rattle.std.specs.declared.cmp.Ordering.{Ordering}
 use Rattle.std.specs.declared.cmp.Ordering.TheVariants.{Less, Equal, Greater}
@@ -18,7 +18,7 @@ use Rattle.dq_base.proofs.SetLaws.{Ascends, Each, ascends_with}
 use Rattle.dq_base.specs.declared.value.Value.{Value}
 use Rattle.dq_base.specs.declared.query.Measure.{Measure}
 use Rattle.dq_base.specs.declared.query.Query.{Query}
-use Rattle.dq_fold.specs.Folding.{AreMergeable, entries_by, groups_of, merged_by, merged_groups, merged_in, tallies_of}
+use Rattle.dq_fold.specs.Folding.{AreMergeable, Folded, entries_by, folded, groups_of, merged_by, merged_groups, merged_in, tallies_of}
 use Rattle.dq_fold.specs.Tallies.{Mergeable, merged_all, tally_of}
 use Rattle.dq_fold.specs.declared.tally.Tally.{Tally}
 use Rattle.dq_fold.proofs.Grouped.{ascends_keys, keys_total, no_rows, same_some}
@@ -187,3 +187,20 @@ groups_append q rows more n =
 
 pub groups_mergeable : (q : Query) (rows more : List (List Value)) → length rows + length more ≤ 2 ^ 23 → AreMergeable (groups_of q rows) (groups_of q more)
 groups_mergeable q rows more n = mergeable_entries q (kept q rows) (kept q more) (few_kept q rows more n)
+
+-- the groups of two folds of one query can be merged
+pub folds_mergeable : (q : Query) (rows more : List (List Value)) (es os : List (List Value × List Tally)) (n m : ℕ)
+    → es ≡ groups_of q rows → os ≡ groups_of q more → n ≡ length rows → m ≡ length more → n + m ≤ 2 ^ 23 → AreMergeable es os
+folds_mergeable q rows more es os n m ee eo en em few =
+    let P : List (List Value × List Tally) → Type 0 = λ gs. AreMergeable gs os in
+    let Q : List (List Value × List Tally) → Type 0 = λ gs. AreMergeable (groups_of q rows) gs in
+    subst P (sym ee) (subst Q (sym eo) (groups_mergeable q rows more (omega arith)))
+
+-- and are then what a fold holds over the rows of both
+pub folds_merged : (q p : Query) (rows more : List (List Value)) (es os after : List (List Value × List Tally)) (n m : ℕ)
+    → p ≡ q → es ≡ groups_of q rows → os ≡ groups_of q more → n ≡ length rows → m ≡ length more → n + m ≤ 2 ^ 23 → after ≡ merged_groups es os
+    → record { key = p; groups = after; rows = n + m; spent = false } ≡ folded q (rows ++ more)
+folds_merged q p rows more es os after n m ep ee eo en em few ea =
+    let all : after ≡ groups_of q (rows ++ more) = ea ∙ ap (λ gs. merged_groups gs os) ee ∙ ap (merged_groups (groups_of q rows)) eo ∙ groups_append q rows more (omega arith) in
+    let count : n + m ≡ length (rows ++ more) = omega (arith, length-append rows more) in
+    cc
