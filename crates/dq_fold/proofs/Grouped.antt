@@ -26,7 +26,7 @@ use Rattle.dq_fold.specs.declared.tally.Tally.{Tally}
 use Rattle.dq_fold.proofs.Mapped.{insert_mapped, lookup_mapped, set_mapped}
 use Rattle.dq_fold.proofs.Tallied.{added_tallies, all_map, count_small, fold_push, length_filter, tally_cells_of}
 
-keys_total : IsTotalOrder key_cmp
+pub keys_total : IsTotalOrder key_cmp
 keys_total = lists_total value_cmp_total
 
 chosen_one : {X : Type 0} (p : X → Bool) (x : X) (b : Bool) → p x ≡ b → filter p (x ∷ []) ≡ cond b (x ∷ []) []
@@ -51,7 +51,7 @@ any_map : {X Y : Type 0} (p : Y → Bool) (h : X → Y) (xs : List X) → list_a
 any_map p h [] = refl
 any_map p h (x ∷ xs) = ap (λ b. p (h x) || b) (any_map p h xs)
 
-ascends_keys : (dims : List ℕ) (rows : List (List Value)) → Ascends key_cmp (keys_of dims rows)
+pub ascends_keys : (dims : List ℕ) (rows : List (List Value)) → Ascends key_cmp (keys_of dims rows)
 ascends_keys [] rows = (tt, tt)
 ascends_keys (d ∷ dims) rows = ascends_set_of key_cmp keys_total (map (key_of (d ∷ dims)) rows)
 
@@ -60,11 +60,16 @@ keys_push [] rows row = refl
 keys_push (d ∷ dims) rows row =
     ap (set_of key_cmp) (map_push (key_of (d ∷ dims)) rows row) ∙ fold_push (λ set x. with key_cmp x set) [] (map (key_of (d ∷ dims)) rows) (key_of (d ∷ dims) row)
 
--- a key of a row that no row has
-no_rows : (dims : List ℕ) (rows : List (List Value)) (row : List Value) → has key_cmp (keys_of dims rows) (key_of dims row) ≡ false → rows_with dims (key_of dims row) rows ≡ []
-no_rows [] rows row e = cc
-no_rows (d ∷ dims) rows row e =
-    let p : List Value → Bool = λ x. is_eq (key_cmp (key_of (d ∷ dims) row) x) in
+never : {X : Type 0} (b : Bool) (xs : List X) → (b || false) ≡ false → list_any (λ (x : X). b) xs ≡ false
+never true xs e = cc
+never false [] e = refl
+never false (x ∷ xs) e = never false xs e
+
+-- a key that no row has
+pub no_rows : (dims : List ℕ) (rows : List (List Value)) (key : List Value) → has key_cmp (keys_of dims rows) key ≡ false → rows_with dims key rows ≡ []
+no_rows [] rows key e = filter_none (λ r. is_eq (key_cmp key (key_of [] r))) rows (never (is_eq (key_cmp key [])) rows e)
+no_rows (d ∷ dims) rows key e =
+    let p : List Value → Bool = λ x. is_eq (key_cmp key x) in
     filter_none (λ r. p (key_of (d ∷ dims) r)) rows
     (sym (any_set_of p key_cmp exact_keys (map (key_of (d ∷ dims)) rows) ∙ any_map p (key_of (d ∷ dims)) rows) ∙ e)
 
@@ -106,7 +111,7 @@ module _ (q : Query) (rows : List (List Value)) (row : List Value) (after : List
       ∙ set_mapped key_cmp keys_total exact_keys k f g (tallies_other q rows row) ks (ascends_keys q.dims rows) e
   by_presence false e =
       adds.absent (lookup_mapped key_cmp exact_keys k f ks ∙ ap (λ b. cond b (Some (f k)) None) e)
-      ∙ ap (λ rs. insert_entry key_cmp (entries_by f ks) k (map (added row) (map (tally_of rs) q.measures))) (sym (no_rows q.dims rows row e))
+      ∙ ap (λ rs. insert_entry key_cmp (entries_by f ks) k (map (added row) (map (tally_of rs) q.measures))) (sym (no_rows q.dims rows k e))
       ∙ ap (insert_entry key_cmp (entries_by f ks) k) (tallies_here q rows row)
       ∙ insert_mapped key_cmp keys_total exact_keys k f g (tallies_other q rows row) ks (ascends_keys q.dims rows)
 
@@ -126,7 +131,7 @@ groups_push q rows row key es after keep ek ee adds =
 pub groups_skip : (q : Query) (rows : List (List Value)) (row : List Value) → keeps q row ≡ false → groups_of q (rows ++ row ∷ []) ≡ groups_of q rows
 groups_skip q rows row drop = ap (λ rs. entries_by (tallies_of q rs) (keys_of q.dims rs)) (filter_skip (keeps q) rows row drop)
 
-same_some : {X : Type 0} (b : Bool) (x y : X) → cond b (Some x) None ≡ Some y → x ≡ y
+pub same_some : {X : Type 0} (b : Bool) (x y : X) → cond b (Some x) None ≡ Some y → x ≡ y
 same_some true x y e = cc
 same_some false x y e = cc
 

@@ -1,5 +1,8 @@
 pub mod Grouped
 pub mod Inserts
+pub mod Joined
 pub mod Mapped
+pub mod Merged
 pub mod Sizes
 pub mod Tallied
+pub mod Unions

@@ -85,7 +85,7 @@ summed_one (Some v) vs =
     let n : length (vs ++ v ∷ []) ≡ length vs + 1 = length_push vs v in
     cc
 
-chosen : (b : Bool) (v w : Value) → cond b (Some v) (Some w) ≡ Some (if b then v else w)
+pub chosen : (b : Bool) (v w : Value) → cond b (Some v) (Some w) ≡ Some (if b then v else w)
 chosen true v w = refl
 chosen false v w = refl
 

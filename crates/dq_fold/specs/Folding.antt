@@ -1,12 +1,15 @@
 -- What a key's fold holds over rows.
-use Rattle.std.specs.Prelude.{◌≡◌, ℕ, ◌≤◌, ◌^◌, Bool, false, List, [], ◌∷◌, ◌++◌, map, length, ◌<◌}
-use Rattle.std.specs.List.{All}
+use Rattle.std.specs.Prelude.{◌≡◌, ℕ, ◌≤◌, ◌^◌, Bool, false, List, [], ◌∷◌, ◌++◌, map, length, ◌<◌, Option, Some, None}
+use Rattle.std.specs.BTreeMap.{insert_entry, is_at}
+use Rattle.std.specs.List.{All, fold}
+use Rattle.std.specs.Map.{lookup, set_value}
 use Rattle.dq_base.specs.Answers.{cell_of, keys, rows_with}
 use Rattle.dq_base.specs.Filters.{kept}
+use Rattle.dq_base.specs.Orders.{key_cmp}
 use Rattle.dq_base.specs.declared.value.Value.{Value}
 use Rattle.dq_base.specs.declared.cell.Cell.{Cell}
 use Rattle.dq_base.specs.declared.query.Query.{Query}
-use Rattle.dq_fold.specs.Tallies.{count_in, tally_cell, tally_of}
+use Rattle.dq_fold.specs.Tallies.{Mergeable, count_in, merged_all, tally_cell, tally_of}
 use Rattle.dq_fold.specs.declared.tally.Tally.{Tally}
 
 -- a query, its groups by key with a tally for each measure, how many rows were added, and whether an addition failed
@@ -48,3 +51,24 @@ IsGroups q es = (rows : List (List Value)) × (es ≡ groups_of q rows) × (leng
 abbrev pub AllSmall : List (List Value × List Tally) → Type 0
 AllSmall [] = Unit {0}
 AllSmall (e ∷ es) = All (λ t. count_in t ≤ 2 ^ 23) e.1 × AllSmall es
+
+-- the groups with one more, by the tallies that its key has: none, or those that its own are merged into
+abbrev pub merged_by : Option (List Tally) → List (List Value × List Tally) → List Value → List Tally → List (List Value × List Tally)
+merged_by None es key us = insert_entry key_cmp es key us
+merged_by (Some ts) es key us = set_value (is_at (key_cmp key)) es (merged_all ts us)
+
+abbrev pub merged_in : List (List Value × List Tally) → List Value × List Tally → List (List Value × List Tally)
+merged_in es e = merged_by (lookup (is_at (key_cmp e.0)) es) es e.0 e.1
+
+-- the groups with each of others
+abbrev pub merged_groups : List (List Value × List Tally) → List (List Value × List Tally) → List (List Value × List Tally)
+merged_groups es others = fold merged_in es others
+
+-- the tallies that a key has are mergeable with others
+abbrev pub IsMergeable : List (List Value × List Tally) → List Value × List Tally → Type 0
+IsMergeable es e = (ts : List Tally) → lookup (is_at (key_cmp e.0)) es ≡ Some ts → Mergeable ts e.1
+
+-- so are those of each of other groups, when its turn comes
+abbrev pub AreMergeable : List (List Value × List Tally) → List (List Value × List Tally) → Type 0
+AreMergeable es [] = Unit {0}
+AreMergeable es (e ∷ others) = IsMergeable es e × AreMergeable (merged_in es e) others

@@ -26,3 +26,7 @@ sum_cell t = cond (eqb t.count 0) cell.Null (cell.Whole t.sum)
 -- the sum over the count, or null over nothing
 abbrev pub average_cell : Sums → Cell
 average_cell t = cond (eqb t.count 0) cell.Null (cell.Ratio (record { sum = t.sum; others = t.count - 1 }))
+
+-- two sums as one
+abbrev pub merged_sums : Sums → Sums → Sums
+merged_sums t u = record { sum = t.sum +ℤ u.sum; count = t.count + u.count }

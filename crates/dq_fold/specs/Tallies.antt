@@ -1,5 +1,5 @@
 -- What is kept of a group's rows for each measure.
-use Rattle.std.specs.Prelude.{ℕ, pos, ◌+◌, Bool, true, cond, List, [], ◌∷◌, length, Option, Some, None}
+use Rattle.std.specs.Prelude.{ℕ, pos, ◌+◌, ◌^◌, ◌≤◌, Bool, true, cond, List, [], ◌∷◌, length, Option, Some, None}
 use Rattle.std.specs.List.{fold}
 use Rattle.std.specs.Ordering.{is_lt, is_gt}
 use Rattle.dq_base.specs.Answers.{cell_of, count_cell, greater, lesser, present, total}
@@ -12,7 +12,7 @@ use Rattle.dq_base.specs.declared.cell.Cell.{Cell}
 use Rattle.dq_base.specs.declared.cell.Cell.TheVariants as cell
 use Rattle.dq_base.specs.declared.query.Measure.{Measure}
 use Rattle.dq_base.specs.declared.query.Measure.TheVariants as measure
-use Rattle.dq_fold.specs.Sums.{Sums, summed, sum_cell, average_cell}
+use Rattle.dq_fold.specs.Sums.{Sums, summed, merged_sums, sum_cell, average_cell}
 use Rattle.dq_fold.specs.declared.tally.Tally.{Tally}
 use Rattle.dq_fold.specs.declared.tally.Tally.TheVariants as tally
 
@@ -110,3 +110,59 @@ added row (tally.Least c v) = tally.Least c (lowered (filled (value_at row c)) v
 added row (tally.Greatest c v) = tally.Greatest c (raised (filled (value_at row c)) v)
 added row (tally.Distinct c vs) = tally.Distinct c (seen (filled (value_at row c)) vs)
 added row (tally.Average c t) = tally.Average c (summed (filled (value_at row c)) t)
+
+-- a sum, and the one that a tally keeps
+abbrev pub with_sum : Sums → Tally → Sums
+with_sum t (tally.Rows n) = t
+with_sum t (tally.Count c n) = t
+with_sum t (tally.Sum c u) = merged_sums t u
+with_sum t (tally.Least c v) = t
+with_sum t (tally.Greatest c v) = t
+with_sum t (tally.Distinct c vs) = t
+with_sum t (tally.Average c u) = merged_sums t u
+
+-- the bound that a tally keeps, if there is one
+abbrev pub best_in : Tally → Option Value
+best_in (tally.Rows n) = None
+best_in (tally.Count c n) = None
+best_in (tally.Sum c t) = None
+best_in (tally.Least c v) = v
+best_in (tally.Greatest c v) = v
+best_in (tally.Distinct c vs) = None
+best_in (tally.Average c t) = None
+
+-- different values, and each of some more
+abbrev pub all_seen : List Value → List Value → List Value
+all_seen vs more = fold (λ set v. with value_cmp v set) vs more
+
+-- different values, and those that a tally keeps
+abbrev pub with_seen : List Value → Tally → List Value
+with_seen vs (tally.Rows n) = vs
+with_seen vs (tally.Count c n) = vs
+with_seen vs (tally.Sum c t) = vs
+with_seen vs (tally.Least c v) = vs
+with_seen vs (tally.Greatest c v) = vs
+with_seen vs (tally.Distinct c more) = all_seen vs more
+with_seen vs (tally.Average c t) = vs
+
+-- what is kept once the rows of another tally for the same measure are added
+abbrev pub merged : Tally → Tally → Tally
+merged (tally.Rows n) u = tally.Rows (n + count_in u)
+merged (tally.Count c n) u = tally.Count c (n + count_in u)
+merged (tally.Sum c t) u = tally.Sum c (with_sum t u)
+merged (tally.Least c v) u = tally.Least c (lowered (best_in u) v)
+merged (tally.Greatest c v) u = tally.Greatest c (raised (best_in u) v)
+merged (tally.Distinct c vs) u = tally.Distinct c (with_seen vs u)
+merged (tally.Average c t) u = tally.Average c (with_sum t u)
+
+-- each tally with the other at its place
+abbrev pub merged_all : List Tally → List Tally → List Tally
+merged_all ts [] = ts
+merged_all [] (u ∷ us) = []
+merged_all (t ∷ ts) (u ∷ us) = merged t u ∷ merged_all ts us
+
+-- each of the other tallies has one at its place, and the two count at most 2^23
+abbrev pub Mergeable : List Tally → List Tally → Type 0
+Mergeable ts [] = Unit {0}
+Mergeable [] (u ∷ us) = ⊥
+Mergeable (t ∷ ts) (u ∷ us) = (count_in t + count_in u ≤ 2 ^ 23) × Mergeable ts us

@@ -1,9 +1,9 @@
-ghost use Rattle.std.specs.Prelude.{◌≡◌, ◌^◌, ◌<◌, ◌≤◌, ◌++◌, ◌∷◌, [], true, false, List as ListOf, IfOk, OnErr, OnOk, map};
+ghost use Rattle.std.specs.Prelude.{◌≡◌, ◌+◌, ◌^◌, ◌<◌, ◌≤◌, ◌++◌, ◌∷◌, [], true, false, List as ListOf, IfOk, OnErr, OnOk, map};
 ghost use Rattle.dq_base.specs.Answers.{answer, first_rows};
 ghost use Rattle.dq_base.specs.declared.value.Value.{Value as ValueOf};
-ghost use Rattle.dq_fold.specs.Folding.{AllSmall, IsGroups, folded, group_cells, groups_of};
+ghost use Rattle.dq_fold.specs.Folding.{AllSmall, AreMergeable, IsGroups, folded, group_cells, groups_of, merged_groups};
 
-use crate::groups::{Groups, add_row, cells_of, fill, no_tallies};
+use crate::groups::{Groups, add_row, cells_of, fill, merge_group, no_tallies};
 use crate::keeps::is_kept;
 use crate::order::sort_rows;
 use dq_base::{Canon, Cells, List, Memory, Query, Table, Value, Values};
@@ -73,6 +73,26 @@ impl Fold {
         Ok(())
     }
 
+    /// Adds the rows of another fold of the same query, after the rows of this one. After an `Err` the fold is spent, and
+    /// can only be dropped.
+    ///
+    /// A group of the other that this one lacks is moved over. One that both have costs an addition for each measure, and
+    /// for a count of different values one for each of the other's. Each costs a look-up among the groups.
+    pub fn merge(&mut self, other: Fold) -> Result<(), Memory>
+        requires fresh { self.old.spent ≡ false }
+        requires other { other.spent ≡ false }
+        requires same { other.key ≡ self.old.key }
+        requires room { self.old.rows + other.rows ≤ 2 ^ 23 }
+        ensures ok { OnOk result ((rows more : ListOf (ListOf ValueOf)) → self.old ≡ folded self.old.key rows → other ≡ folded self.old.key more → self.new ≡ folded self.old.key (rows ++ more)) }
+        ensures err { OnErr result (self.new.spent ≡ true) }
+    {
+        self.spent = true;
+        self.rows += other.rows;
+        merge_groups(self.alloc, &mut self.groups, other.groups)?;
+        self.spent = false;
+        Ok(())
+    }
+
     /// The answer over the rows that were added. It costs a sort of the groups' rows.
     pub fn finish(self) -> Result<Table, Memory>
         requires { self.spent ≡ false }
@@ -114,6 +134,17 @@ fn add_to_groups(
     }
     fill(alloc, buffer, q.dims.as_slice(), row)?;
     add_row(alloc, groups, buffer, q.measures.as_slice(), row)?;
+    Ok(())
+}
+
+/// Merges each of other groups into the groups.
+fn merge_groups(alloc: Global, groups: &mut Groups, others: Groups) -> Result<(), Memory>
+    requires { AreMergeable groups.old.entries others.entries }
+    ensures { OnOk result (groups.new.entries ≡ merged_groups groups.old.entries others.entries) }
+{
+    for (key, tallies) in others {
+        merge_group(alloc, groups, key, tallies)?;
+    }
     Ok(())
 }
 

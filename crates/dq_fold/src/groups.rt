@@ -6,7 +6,8 @@ ghost use Rattle.dq_base.specs.Answers.{cell_of, key_of};
 ghost use Rattle.dq_base.specs.Filters.{value_at};
 ghost use Rattle.dq_base.specs.Orders.{key_cmp};
 ghost use Rattle.dq_base.specs.declared.value.Value.TheVariants.{Word};
-ghost use Rattle.dq_fold.specs.Tallies.{added, count_in, tally_cell, tally_of};
+ghost use Rattle.dq_fold.specs.Folding.{IsMergeable, merged_in};
+ghost use Rattle.dq_fold.specs.Tallies.{Mergeable, added, count_in, merged_all, tally_cell, tally_of};
 ghost use Rattle.dq_fold.specs.declared.tally.Tally.{Tally as TallyOf};
 
 use crate::tally::{Tally, cell_from};
@@ -150,6 +151,36 @@ pub fn add_row(
     match groups.get_mut(key) {
         Some(tallies) => add_to(alloc, tallies, row),
         None => add_group(alloc, groups, key, measures, row),
+    }
+}
+
+/// Merges other tallies into those at their places.
+fn merge_tallies(alloc: Global, tallies: &mut Tallies, others: &Tallies) -> Result<(), Memory>
+    requires { Mergeable tallies.old others.now }
+    ensures { OnOk result (tallies.new ≡ merged_all tallies.old others.now) }
+{
+    for (place, other) in others.as_slice().iter().enumerate() {
+        tallies.item_mut(place).merge(alloc, other)?;
+    }
+    Ok(())
+}
+
+/// Merges a group into that of its key, or puts it in where there is none.
+pub fn merge_group(
+    alloc: Global,
+    groups: &mut Groups,
+    key: Values,
+    tallies: Tallies,
+) -> Result<(), Memory>
+    requires { IsMergeable groups.old.entries (key, tallies) }
+    ensures { OnOk result (groups.new.entries ≡ merged_in groups.old.entries (key, tallies)) }
+{
+    match groups.get_mut(&key) {
+        Some(own) => merge_tallies(alloc, own, &tallies),
+        None => {
+            groups.insert(key, tallies)?;
+            Ok(())
+        }
     }
 }
 

@@ -1,6 +1,7 @@
 ghost use Rattle.std.specs.Prelude.{◌≡◌, [], OnErr, OnOk, length};
 ghost use Rattle.dq_base.specs.Orders.{value_cmp};
 ghost use Rattle.dq_base.specs.Sets.{with};
+ghost use Rattle.dq_fold.specs.Tallies.{all_seen};
 
 use dq_base::{Duplicate, Memory, Value};
 use std::alloc::Global;
@@ -50,6 +51,16 @@ impl Seen {
         }
         let copy = v.duplicate(alloc)?;
         self.set.insert(copy)?;
+        Ok(())
+    }
+
+    /// Puts each of other values in. Only the new ones take memory.
+    pub fn merge(&mut self, alloc: Global, other: &Seen) -> Result<(), Memory>
+        ensures { OnOk result (self.new ≡ all_seen self.old other.now) }
+    {
+        for v in &other.set {
+            self.add(alloc, v)?;
+        }
         Ok(())
     }
 }

@@ -2,7 +2,7 @@ ghost use Rattle.std.specs.Prelude.{◌≡◌, ◌+◌, ◌^◌, ◌<◌, ◌≤
 ghost use Rattle.std.specs.Option.{option_copied};
 ghost use Rattle.dq_base.specs.Answers.{cell_of, number_of};
 ghost use Rattle.dq_fold.specs.Sums.{summed};
-ghost use Rattle.dq_fold.specs.Tallies.{added, best_cell, count_in, counted, lowered, lowers, raised, raises, seen, tally_cell, tally_of};
+ghost use Rattle.dq_fold.specs.Tallies.{added, best_cell, best_in, count_in, counted, lowered, lowers, merged, raised, raises, seen, tally_cell, tally_of, with_seen, with_sum};
 
 use crate::keeps::filled_at;
 use crate::seen::Seen;
@@ -63,6 +63,64 @@ impl Tally {
                 sum(total, filled_at(row, *c));
                 Ok(())
             }
+        }
+    }
+
+    /// Adds the rows of another tally for the same measure. Only a new bound or a new different value takes memory.
+    pub fn merge(&mut self, alloc: Global, other: &Tally) -> Result<(), Memory>
+        requires { count_in self.old + count_in other.now ≤ 2 ^ 23 }
+        ensures { OnOk result (self.new ≡ merged self.old other.now) }
+    {
+        match self {
+            Tally::Rows(n) => {
+                *n += other.count();
+                Ok(())
+            }
+            Tally::Count(_, n) => {
+                *n += other.count();
+                Ok(())
+            }
+            Tally::Sum(_, total) => {
+                merge_sum(total, other);
+                Ok(())
+            }
+            Tally::Least(_, best) => lower(alloc, best, other.best()),
+            Tally::Greatest(_, best) => raise(alloc, best, other.best()),
+            Tally::Distinct(_, values) => merge_seen(alloc, values, other),
+            Tally::Average(_, total) => {
+                merge_sum(total, other);
+                Ok(())
+            }
+        }
+    }
+
+    /// How many rows or values are counted.
+    fn count(&self) -> u64
+        ensures { result ≡ count_in self.now }
+    {
+        match self {
+            Tally::Rows(n) => *n,
+            Tally::Count(_, n) => *n,
+            Tally::Sum(_, total) => total.count(),
+            Tally::Least(_, _) => 0,
+            Tally::Greatest(_, _) => 0,
+            Tally::Distinct(_, _) => 0,
+            Tally::Average(_, total) => total.count(),
+        }
+    }
+
+    /// The bound, if there is one.
+    fn best(&self) -> Option<&Value>
+        ensures { option_copied result ≡ best_in self.now }
+    {
+        match self {
+            Tally::Rows(_) => None,
+            Tally::Count(_, _) => None,
+            Tally::Sum(_, _) => None,
+            Tally::Least(_, best) => best.as_ref(),
+            Tally::Greatest(_, best) => best.as_ref(),
+            Tally::Distinct(_, _) => None,
+            Tally::Average(_, _) => None,
         }
     }
 
@@ -138,6 +196,37 @@ fn see(alloc: Global, values: &mut Seen, v: Option<&Value>) -> Result<(), Memory
     match v {
         None => Ok(()),
         Some(v) => values.add(alloc, v),
+    }
+}
+
+/// Adds the sum that a tally keeps, if it keeps one.
+fn merge_sum(total: &mut Total, other: &Tally)
+    requires { total.old.count + count_in other.now ≤ 2 ^ 23 }
+    ensures { total.new ≡ with_sum total.old other.now }
+{
+    match other {
+        Tally::Rows(_) => {}
+        Tally::Count(_, _) => {}
+        Tally::Sum(_, more) => total.merge(more),
+        Tally::Least(_, _) => {}
+        Tally::Greatest(_, _) => {}
+        Tally::Distinct(_, _) => {}
+        Tally::Average(_, more) => total.merge(more),
+    }
+}
+
+/// Puts the different values that a tally keeps in, if it keeps some.
+fn merge_seen(alloc: Global, values: &mut Seen, other: &Tally) -> Result<(), Memory>
+    ensures { OnOk result (values.new ≡ with_seen values.old other.now) }
+{
+    match other {
+        Tally::Rows(_) => Ok(()),
+        Tally::Count(_, _) => Ok(()),
+        Tally::Sum(_, _) => Ok(()),
+        Tally::Least(_, _) => Ok(()),
+        Tally::Greatest(_, _) => Ok(()),
+        Tally::Distinct(_, more) => values.merge(alloc, more),
+        Tally::Average(_, _) => Ok(()),
     }
 }
 

@@ -1,5 +1,5 @@
 ghost use Rattle.std.specs.Prelude.{◌≡◌, ◌+◌, ◌-◌, ◌^◌, ◌<◌, ◌≤◌, ◌+ℤ◌, pos};
-ghost use Rattle.dq_fold.specs.Sums.{Sums, average_cell, sum_cell};
+ghost use Rattle.dq_fold.specs.Sums.{Sums, average_cell, merged_sums, sum_cell};
 
 use dq_base::{Cell, Ratio};
 use std::marker::Model;
@@ -36,6 +36,22 @@ impl Total {
     {
         self.sum += i128::from(n);
         self.count += 1;
+    }
+
+    /// Adds the numbers of another sum.
+    pub fn merge(&mut self, other: &Total)
+        requires { self.old.count + other.now.count ≤ 2 ^ 23 }
+        ensures { self.new ≡ merged_sums self.old other.now }
+    {
+        self.sum += other.sum;
+        self.count += other.count;
+    }
+
+    /// How many numbers were added.
+    pub fn count(&self) -> u64
+        ensures { result ≡ self.now.count }
+    {
+        self.count
     }
 
     /// The sum, or null over nothing.
