@@ -1,5 +1,6 @@
 ghost use Rattle.std.specs.Prelude.{◌≡◌, ◌^◌, ◌<◌, ◌≤◌, ◌++◌, ◌∷◌, [], true, false, List as ListOf, IfOk, OnErr, OnOk, map};
 ghost use Rattle.dq_base.specs.Answers.{answer, first_rows};
+ghost use Rattle.dq_base.specs.Canonical.{IsCanonical};
 ghost use Rattle.dq_base.specs.declared.value.Value.{Value as ValueOf};
 ghost use Rattle.dq_fold.specs.Folding.{AllSmall, IsGroups, folded, group_cells, groups_of};
 
@@ -106,7 +107,8 @@ fn add_to_groups(
     groups: &mut Groups,
     row: &[Value],
 ) -> Result<(), Memory>
-    requires { IsGroups q.now groups.old.entries }
+    requires canonical { IsCanonical q.now }
+    requires groups { IsGroups q.now groups.old.entries }
     ensures { OnOk result ((rows : ListOf (ListOf ValueOf)) → groups.old.entries ≡ groups_of q.now rows → groups.new.entries ≡ groups_of q.now (rows ++ row.now ∷ [])) }
 {
     if !is_kept(q, row) {
