@@ -1,5 +1,5 @@
 -- What a binary search of an ascending list finds.
-use Rattle.std.proofs.Common.{◌≡◌, ℕ, ◌+◌, ◌<◌, true, false, List, [], ◌∷◌, length, get_or, refl, sym, subst, ap, ◌∙◌, ⊎_elim, suc, zero, Result, Ok, Err, arith}
+use Rattle.std.proofs.Common.{◌≡◌, ℕ, ◌+◌, List, [], ◌∷◌, length, get_or, sym, subst, ap, ◌∙◌, ⊎_elim, suc, zero, Result, Ok, Err, arith}
 use Rattle.std.specs.Ordering.{is_eq, is_lt, ordering_reverse}
 use Rattle.std.specs.declared.cmp.Ordering.{Ordering}
 use Rattle.std.specs.declared.cmp.Ordering.TheVariants.{Less, Equal, Greater}
@@ -31,9 +31,9 @@ module _ {X : Type 0} (cmp : X → X → Ordering) (o : IsTotalOrder cmp) where
   found_by xs x (Err i) a below parted =
       let p = parted (searchable_from_sorted o (λ y. y) xs x (sorted_from_ascends xs a)) in
       sym (list_any_none (λ y. is_eq (cmp x y)) xs (λ k d h. ⊎_elim
-          (λ before. ap is_eq (turned Less (get_or xs k d) x (p.0 k d (omega arith) before)))
-          (λ behind. ap is_eq (turned Greater (get_or xs k d) x (p.1 k d behind h)))
-          (cases_lt k i)))
+      (λ before. ap is_eq (turned Less (get_or xs k d) x (p.0 k d (omega arith) before)))
+      (λ behind. ap is_eq (turned Greater (get_or xs k d) x (p.1 k d behind h)))
+      (cases_lt k i)))
 
   -- the same of a list that is its own set
   pub found_in_set : (xs : List X) (x : X) (r : Result ℕ ℕ) → set_of cmp xs ≡ xs → IsSearchInRange r (length xs) → IsBinarySearchResult (λ y. cmp y x) xs r → is_ok r ≡ has cmp xs x

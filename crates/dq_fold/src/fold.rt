@@ -53,8 +53,8 @@ impl Fold {
 
     /// Adds a row. A column that it lacks reads as null. After an `Err` the fold is spent, and can only be dropped.
     ///
-    /// A row that isn't kept costs its predicates only. A row of a known group costs a look-up among the groups, and an
-    /// addition for each measure.
+    /// A row that isn't kept costs its predicates times the logarithm of their lists only. A row of a known group costs a
+    /// look-up among the groups, and an addition for each measure.
     pub fn add(&mut self, values: &[Value]) -> Result<(), Memory>
         requires fresh { self.old.spent ≡ false }
         requires room { self.old.rows < 2 ^ 23 }

@@ -8,7 +8,7 @@ ghost use Rattle.dq_fold.specs.Tallies.{filled};
 
 use dq_base::{Predicate, Query, Test, Value, Values};
 
-/// Whether an ascending list has the like of a value. It costs the logarithm of the list's length.
+/// Whether an ascending list has the like of a value. It costs the logarithm of the list.
 fn has_like(list: &Values, v: &Value) -> bool
     requires { set_of value_cmp list.now ≡ list.now }
     ensures { result ≡ has value_cmp list.now v.now }
@@ -70,7 +70,7 @@ fn predicate_holds(p: &Predicate, row: &[Value]) -> bool
     }
 }
 
-/// Whether a query keeps a row. It takes no memory, and costs the predicates times the logarithm of their lists' lengths.
+/// Whether a query keeps a row. It takes no memory, and costs the predicates times the logarithm of their lists.
 pub fn is_kept(q: &Query, row: &[Value]) -> bool
     requires { IsCanonical q.now }
     ensures { result ≡ keeps q.now row.now }

@@ -10,5 +10,5 @@ use Rattle.dq_fold.proofs.keeps.is_kept.Goals as goal
 pub all-requires-clause-callable : goal.all-requires-clause-callable
 all-requires-clause-callable c =
     serves_from_places (YieldsList-from_slice c.args.q.now.filters (cc)) (λ p g called. search rules) (λ p k low at.
-        let settled : canonical_test p.now.test ≡ p.now.test = subst (λ (r : Predicate). canonical_test r.test ≡ r.test) (sym at) (all_settled c.args.q.now c.requires k p.now low) in
-        search rules)
+    let settled : canonical_test p.now.test ≡ p.now.test = subst (λ (r : Predicate). canonical_test r.test ≡ r.test) (sym at) (all_settled c.args.q.now c.requires k p.now low) in
+    search rules)
