@@ -3,6 +3,8 @@ pub mod Inserts
 pub mod Joined
 pub mod Mapped
 pub mod Merged
+pub mod Searched
+pub mod Settled
 pub mod Sizes
 pub mod Tallied
 pub mod Unions

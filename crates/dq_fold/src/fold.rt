@@ -1,5 +1,6 @@
 ghost use Rattle.std.specs.Prelude.{◌≡◌, ◌+◌, ◌^◌, ◌<◌, ◌≤◌, ◌++◌, ◌∷◌, [], true, false, List as ListOf, IfOk, OnErr, OnOk, map};
 ghost use Rattle.dq_base.specs.Answers.{answer, first_rows};
+ghost use Rattle.dq_base.specs.Canonical.{IsCanonical};
 ghost use Rattle.dq_base.specs.declared.value.Value.{Value as ValueOf};
 ghost use Rattle.dq_fold.specs.Folding.{AllSmall, AreMergeable, IsGroups, folded, group_cells, groups_of, merged_groups};
 
@@ -52,8 +53,8 @@ impl Fold {
 
     /// Adds a row. A column that it lacks reads as null. After an `Err` the fold is spent, and can only be dropped.
     ///
-    /// A row that isn't kept costs its predicates only. A row of a known group costs a look-up among the groups, and an
-    /// addition for each measure.
+    /// A row that isn't kept costs its predicates times the logarithm of their lists only. A row of a known group costs a
+    /// look-up among the groups, and an addition for each measure.
     pub fn add(&mut self, values: &[Value]) -> Result<(), Memory>
         requires fresh { self.old.spent ≡ false }
         requires room { self.old.rows < 2 ^ 23 }
@@ -126,7 +127,8 @@ fn add_to_groups(
     groups: &mut Groups,
     row: &[Value],
 ) -> Result<(), Memory>
-    requires { IsGroups q.now groups.old.entries }
+    requires canonical { IsCanonical q.now }
+    requires groups { IsGroups q.now groups.old.entries }
     ensures { OnOk result ((rows : ListOf (ListOf ValueOf)) → groups.old.entries ≡ groups_of q.now rows → groups.new.entries ≡ groups_of q.now (rows ++ row.now ∷ [])) }
 {
     if !is_kept(q, row) {

@@ -1,19 +1,19 @@
 ghost use Rattle.std.specs.Prelude.{◌≡◌};
 ghost use Rattle.std.specs.Option.{option_copied};
+ghost use Rattle.dq_base.specs.Canonical.{IsCanonical, canonical_test};
 ghost use Rattle.dq_base.specs.Filters.{from_low, holds, keeps, lies_between, to_high, value_at};
 ghost use Rattle.dq_base.specs.Orders.{value_cmp};
-ghost use Rattle.dq_base.specs.Sets.{has};
+ghost use Rattle.dq_base.specs.Sets.{has, set_of};
 ghost use Rattle.dq_fold.specs.Tallies.{filled};
 
-use dq_base::{Predicate, Query, Test, Value, Values, compare_values};
+use dq_base::{Predicate, Query, Test, Value, Values};
 
-/// Whether a list has the like of a value.
+/// Whether an ascending list has the like of a value. It costs the logarithm of the list.
 fn has_like(list: &Values, v: &Value) -> bool
+    requires { set_of value_cmp list.now ≡ list.now }
     ensures { result ≡ has value_cmp list.now v.now }
 {
-    list.as_slice()
-        .iter()
-        .any(|other| compare_values(v, other).is_eq())
+    list.as_slice().binary_search(v).is_ok()
 }
 
 /// Whether a number isn't below the low bound, if there is one.
@@ -49,6 +49,7 @@ fn is_between(low: Option<i64>, high: Option<i64>, v: &Value) -> bool
 
 /// Whether a test holds of a value.
 fn test_holds(test: &Test, v: &Value) -> bool
+    requires { canonical_test test.now ≡ test.now }
     ensures { result ≡ holds test.now v.now }
 {
     match test {
@@ -60,6 +61,7 @@ fn test_holds(test: &Test, v: &Value) -> bool
 
 /// Whether a predicate holds of a row.
 fn predicate_holds(p: &Predicate, row: &[Value]) -> bool
+    requires { canonical_test p.now.test ≡ p.now.test }
     ensures { result ≡ holds p.now.test (value_at row.now p.now.column) }
 {
     match row.get(p.column as usize) {
@@ -68,8 +70,9 @@ fn predicate_holds(p: &Predicate, row: &[Value]) -> bool
     }
 }
 
-/// Whether a query keeps a row. It takes no memory.
+/// Whether a query keeps a row. It takes no memory, and costs the predicates times the logarithm of their lists.
 pub fn is_kept(q: &Query, row: &[Value]) -> bool
+    requires { IsCanonical q.now }
     ensures { result ≡ keeps q.now row.now }
 {
     q.filters.as_slice().iter().all(|p| predicate_holds(p, row))

@@ -1,11 +1,12 @@
-ghost use Rattle.std.specs.Prelude.{◌≡◌, ◌≤◌, ◌^◌, IfOk, length, map};
-ghost use Rattle.dq_base.specs.Canonical.{canonical_predicate, predicate_cmp};
+ghost use Rattle.std.specs.Prelude.{◌≡◌, ◌≤◌, ◌^◌, IfOk, IfSome, length, map};
+ghost use Rattle.dq_base.specs.Canonical.{canonical_predicate, canonical_test, predicate_cmp};
+ghost use Rattle.dq_base.specs.Orders.{value_cmp};
 ghost use Rattle.dq_base.specs.Sets.{set_of};
 
 use crate::answer_of;
 use dq_base::{
     Canon, Cell, Cells, List, Measure, Memory, OrderKey, OrderKeys, Predicate, Predicates, Query,
-    Table, Test, Text, Value, Values,
+    Table, Test, Text, Value, Values, put,
 };
 use std::alloc::Global;
 use std::test::Fail;
@@ -21,12 +22,16 @@ enum Want<'a> {
 
 use Want::{Null, Over, Whole, Word};
 
+/// The value of a region; an empty one is null.
+fn region_of(alloc: Global, region: &str) -> Result<Value, Memory> {
+    if region.is_empty() {
+        return Ok(Value::Null);
+    }
+    Ok(Value::Word(Text::copy_of(alloc, region.as_bytes())?))
+}
+
 fn row(alloc: Global, region: &str, year: i64, amount: Option<i64>) -> Result<Values, Memory> {
-    let region = if region.is_empty() {
-        Value::Null
-    } else {
-        Value::Word(Text::copy_of(alloc, region.as_bytes())?)
-    };
+    let region = region_of(alloc, region)?;
     let amount = match amount {
         Some(n) => Value::Int(n),
         None => Value::Null,
@@ -52,10 +57,21 @@ fn large(alloc: Global) -> Result<List<Values>, Memory> {
     ]?))
 }
 
-/// A query, without its source; `until` bounds the years that are kept.
+/// Which rows are kept: all, those until a year, or those of some regions or of all but some.
+#[derive(Clone, Copy)]
+enum Keeps<'a> {
+    All,
+    Until(i64),
+    Among(&'a [&'a str]),
+    Except(&'a [&'a str]),
+}
+
+use Keeps::{All, Among, Except, Until};
+
+/// A query, without its source.
 #[derive(Clone, Copy)]
 struct Case<'a> {
-    until: Option<i64>,
+    keeps: Keeps<'a>,
     dims: &'a [u32],
     measures: &'a [Measure],
     down: Option<u32>,
@@ -63,15 +79,43 @@ struct Case<'a> {
     want: &'a [&'a [Want<'a>]],
 }
 
-fn filters(alloc: Global, until: Option<i64>) -> Result<Predicates, Memory>
+/// The regions ascending.
+fn listed(alloc: Global, regions: &[&str]) -> Result<Values, Memory>
+    ensures { IfOk result (λ list. set_of value_cmp list ≡ list) }
+{
+    let mut list = List::new(alloc);
+    for region in regions {
+        put(&mut list, region_of(alloc, region)?)?;
+    }
+    Ok(list)
+}
+
+fn predicate(alloc: Global, keeps: Keeps<'_>) -> Result<Option<Predicate>, Memory>
+    ensures { IfOk result (λ some. IfSome some (λ p. canonical_test p.test ≡ p.test)) }
+{
+    match keeps {
+        All => Ok(None),
+        Until(year) => {
+            let test = Test::Between(None, Some(year));
+            Ok(Some(Predicate { column: 1, test }))
+        }
+        Among(regions) => {
+            let test = Test::Among(listed(alloc, regions)?);
+            Ok(Some(Predicate { column: 0, test }))
+        }
+        Except(regions) => {
+            let test = Test::Except(listed(alloc, regions)?);
+            Ok(Some(Predicate { column: 0, test }))
+        }
+    }
+}
+
+fn filters(alloc: Global, keeps: Keeps<'_>) -> Result<Predicates, Memory>
     ensures { IfOk result (λ filters. set_of predicate_cmp (map canonical_predicate filters) ≡ filters) }
 {
     let mut filters = List::new(alloc);
-    if let Some(year) = until {
-        filters.push(Predicate {
-            column: 1,
-            test: Test::Between(None, Some(year)),
-        })?;
+    if let Some(predicate) = predicate(alloc, keeps)? {
+        filters.push(predicate)?;
     }
     Ok(filters)
 }
@@ -87,7 +131,7 @@ fn order(alloc: Global, down: Option<u32>) -> Result<OrderKeys, Memory> {
 fn asked(alloc: Global, case: &Case<'_>) -> Result<Canon, Memory> {
     Ok(Canon::new(Query {
         source: 0,
-        filters: filters(alloc, case.until)?,
+        filters: filters(alloc, case.keeps)?,
         dims: List::from_vec(case.dims.to_vec(alloc)?),
         measures: List::from_vec(case.measures.to_vec(alloc)?),
         order: order(alloc, case.down)?,
@@ -137,7 +181,7 @@ fn answers_over_sales(rt: HostRuntime) -> Result<(), Fail> {
     assert!(rt; rows.len() == 5);
     let cases = [
         Case {
-            until: None,
+            keeps: All,
             dims: &[0],
             measures: &[Measure::Sum(2), Measure::Rows],
             down: None,
@@ -149,7 +193,7 @@ fn answers_over_sales(rt: HostRuntime) -> Result<(), Fail> {
             ],
         },
         Case {
-            until: None,
+            keeps: All,
             dims: &[0],
             measures: &[
                 Measure::Distinct(1),
@@ -165,7 +209,7 @@ fn answers_over_sales(rt: HostRuntime) -> Result<(), Fail> {
             ],
         },
         Case {
-            until: None,
+            keeps: All,
             dims: &[0, 1],
             measures: &[Measure::Avg(2)],
             down: None,
@@ -179,7 +223,7 @@ fn answers_over_sales(rt: HostRuntime) -> Result<(), Fail> {
             ],
         },
         Case {
-            until: None,
+            keeps: All,
             dims: &[0],
             measures: &[Measure::Rows],
             down: Some(2),
@@ -187,7 +231,7 @@ fn answers_over_sales(rt: HostRuntime) -> Result<(), Fail> {
             want: &[&[Word("East"), Whole(2)]],
         },
         Case {
-            until: None,
+            keeps: All,
             dims: &[0],
             measures: &[Measure::Max(1)],
             down: Some(2),
@@ -195,7 +239,7 @@ fn answers_over_sales(rt: HostRuntime) -> Result<(), Fail> {
             want: &[&[Null, Whole(2021)]],
         },
         Case {
-            until: None,
+            keeps: All,
             dims: &[],
             measures: &[Measure::Min(2), Measure::Min(0), Measure::Max(0)],
             down: None,
@@ -203,7 +247,7 @@ fn answers_over_sales(rt: HostRuntime) -> Result<(), Fail> {
             want: &[&[Whole(4), Word("East"), Word("West")]],
         },
         Case {
-            until: Some(2020),
+            keeps: Until(2020),
             dims: &[0],
             measures: &[Measure::Rows, Measure::Min(2)],
             down: None,
@@ -214,12 +258,31 @@ fn answers_over_sales(rt: HostRuntime) -> Result<(), Fail> {
             ],
         },
         Case {
-            until: Some(1999),
+            keeps: Until(1999),
             dims: &[],
             measures: &[Measure::Rows, Measure::Sum(2), Measure::Min(2)],
             down: None,
             top: None,
             want: &[&[Whole(0), Null, Null]],
+        },
+        Case {
+            keeps: Among(&["North", "West", "East", "South"]),
+            dims: &[0],
+            measures: &[Measure::Rows, Measure::Sum(2)],
+            down: None,
+            top: None,
+            want: &[
+                &[Word("East"), Whole(2), Whole(15)],
+                &[Word("West"), Whole(2), Whole(7)],
+            ],
+        },
+        Case {
+            keeps: Except(&["West", "North", ""]),
+            dims: &[0],
+            measures: &[Measure::Rows],
+            down: None,
+            top: None,
+            want: &[&[Word("East"), Whole(2)]],
         },
     ];
     for case in &cases {
@@ -232,7 +295,7 @@ fn answers_over_sales(rt: HostRuntime) -> Result<(), Fail> {
 fn answers_at_the_ends(rt: HostRuntime) -> Result<(), Fail> {
     let alloc = rt.alloc();
     let none = Case {
-        until: None,
+        keeps: All,
         dims: &[],
         measures: &[Measure::Rows, Measure::Sum(2)],
         down: None,
@@ -244,7 +307,7 @@ fn answers_at_the_ends(rt: HostRuntime) -> Result<(), Fail> {
     let rows = rows.as_slice();
     assert!(rt; rows.len() == 2);
     let sums = Case {
-        until: None,
+        keeps: All,
         dims: &[],
         measures: &[Measure::Sum(2), Measure::Avg(2)],
         down: None,

@@ -8,7 +8,7 @@ use Rattle.dq_fold.proofs.Grouped.{found_small, groups_push}
 use Rattle.dq_fold.proofs.fold.add_to_groups.Goals as goal
 
 pub add_row-requires : goal.add_row-requires
-add_row-requires c = λ ts e. found_small c.args.q.now c.requires.0 (2 ^ 23) c.args.groups.now.entries c.fill.new.buffer ts c.requires.2 c.requires.1 e
+add_row-requires c = λ ts e. found_small c.args.q.now c.requires.groups.0 (2 ^ 23) c.args.groups.now.entries c.fill.new.buffer ts c.requires.groups.2 c.requires.groups.1 e
 
 pub returns : goal.returns
 returns c = λ rows e.
