@@ -1,53 +1,290 @@
-// An answer over no rows: one row without dimensions, and none with one.
-use crate::evaluate;
-use dq_base::{Canon, Cell, List, Measure, Memory, Numbers, Query, Schema};
-use dq_extract::Extract;
+// Both evaluations answer alike, over rows in one segment, in two and in none, and as was worked out by hand.
+ghost use Rattle.std.specs.Arc.{arc_value};
+ghost use Rattle.std.specs.Prelude.{◌≡◌, ◌<◌, ◌≤◌, length, map};
+ghost use Rattle.dq_base.specs.Canonical.{canonical_predicate, predicate_cmp};
+ghost use Rattle.dq_base.specs.Sets.{set_of};
+ghost use Rattle.dq_base.specs.Versions.{cells_of};
+
+use crate::{evaluate, evaluate_plainly};
+use dq_base::{
+    Canon, Cell, Cells, Duplicate, List, Measure, OrderKey, OrderKeys, Predicate, Predicates,
+    Query, Schema, Sort, Sorts, Table, Test, Text, Texts,
+};
+use dq_extract::{Extract, Segment, load};
 use std::alloc::Global;
 use std::process::Abort;
+use std::sync::Arc;
 
-// An extract without columns or rows.
-fn nothing(alloc: Global) -> Extract {
-    Extract::empty(alloc, Schema::new(List::new(alloc), List::new(alloc)))
+const SALES: &[u8] =
+    b"region,year,amount\nEast,2020,10\nEast,2021,5\nWest,2020,7\nWest,2021,\n,2021,4\n";
+
+const FIRST_SALES: &[u8] = b"region,year,amount\nEast,2020,10\nEast,2021,5\nWest,2020,7\n";
+
+const LAST_SALES: &[u8] = b"region,year,amount\nWest,2021,\n,2021,4\n";
+
+fn word(rt: &impl Abort, alloc: Global, bytes: &[u8]) -> Text {
+    Text::copy_of(alloc, bytes).ok().expect(rt, "memory")
 }
 
-// The number of rows, by these columns.
-fn rows_by(alloc: Global, dims: Numbers) -> Result<Canon, Memory> {
-    let mut measures = List::new(alloc);
-    measures.push(Measure::Rows)?;
-    Ok(Canon::new(Query {
+fn three_names(rt: &impl Abort, alloc: Global) -> Texts
+    ensures { length result ≡ 3 }
+{
+    let mut names = Texts::new(alloc);
+    assert!(rt; names.push(word(rt, alloc, b"region")).is_ok());
+    assert!(rt; names.push(word(rt, alloc, b"year")).is_ok());
+    assert!(rt; names.push(word(rt, alloc, b"amount")).is_ok());
+    assert_eq!(rt; names.len(), 3);
+    names
+}
+
+fn three_sorts(rt: &impl Abort, alloc: Global) -> Sorts
+    ensures { length result ≡ 3 }
+{
+    let mut sorts = Sorts::new(alloc);
+    assert!(rt; sorts.push(Sort::Word).is_ok());
+    assert!(rt; sorts.push(Sort::Whole).is_ok());
+    assert!(rt; sorts.push(Sort::Whole).is_ok());
+    assert_eq!(rt; sorts.len(), 3);
+    sorts
+}
+
+// A text column and two whole ones.
+fn three_columns(rt: &impl Abort, alloc: Global) -> Schema
+    ensures { 0 < length result.names }
+{
+    Schema::new(three_names(rt, alloc), three_sorts(rt, alloc))
+}
+
+// The shared segment of a file of five rows at most.
+fn shared(rt: &impl Abort, alloc: Global, schema: &Schema, file: &[u8]) -> Arc<Segment>
+    requires { 0 < length schema.now.names }
+    ensures heading { (arc_value result).heading ≡ schema.now }
+    ensures cells { cells_of (arc_value result) ≤ 15 }
+    ensures rows { length (arc_value result).rows ≤ 5 }
+{
+    let segment = load(alloc, schema, 15, file).ok().expect(rt, "loaded");
+    assert!(rt; segment.count() <= 5);
+    Arc::new(alloc, segment).ok().expect(rt, "memory")
+}
+
+fn empty_under(rt: &impl Abort, alloc: Global, schema: &Schema) -> Extract
+    ensures { result.heading ≡ schema.now }
+{
+    let copy = schema.duplicate(alloc).ok();
+    Extract::empty(alloc, copy.expect(rt, "memory"))
+}
+
+// The extract of a file's rows.
+fn published(rt: &impl Abort, alloc: Global, schema: &Schema, file: &[u8]) -> Extract
+    requires { 0 < length schema.now.names }
+    ensures heading { result.heading ≡ schema.now }
+    ensures cells { cells_of result ≤ 15 }
+    ensures rows { length result.rows ≤ 5 }
+{
+    let owner = shared(rt, alloc, schema, file);
+    let empty = empty_under(rt, alloc, schema);
+    empty.replaced(alloc, &owner).ok().expect(rt, "memory")
+}
+
+// The extract with a file's rows behind its own.
+fn longer(
+    rt: &impl Abort,
+    alloc: Global,
+    schema: &Schema,
+    extract: &Extract,
+    file: &[u8],
+) -> Extract
+    requires columns { 0 < length schema.now.names }
+    requires heading { extract.now.heading ≡ schema.now }
+    requires cells { cells_of extract.now ≤ 15 }
+    requires rows { length extract.now.rows ≤ 5 }
+{
+    let owner = shared(rt, alloc, schema, file);
+    extract.appended(alloc, &owner).ok().expect(rt, "memory")
+}
+
+fn sales_in_one(rt: &impl Abort, alloc: Global) -> Extract {
+    let schema = three_columns(rt, alloc);
+    published(rt, alloc, &schema, SALES)
+}
+
+fn sales_in_two(rt: &impl Abort, alloc: Global) -> Extract {
+    let schema = three_columns(rt, alloc);
+    let first = published(rt, alloc, &schema, FIRST_SALES);
+    longer(rt, alloc, &schema, &first, LAST_SALES)
+}
+
+fn no_sales(rt: &impl Abort, alloc: Global) -> Extract {
+    let schema = three_columns(rt, alloc);
+    empty_under(rt, alloc, &schema)
+}
+
+// Up to a year, if one is given.
+fn filters(rt: &impl Abort, alloc: Global, until: Option<i64>) -> Predicates
+    ensures { set_of predicate_cmp (map canonical_predicate result) ≡ result }
+{
+    let mut filters = Predicates::new(alloc);
+    if let Some(year) = until {
+        let years = Predicate {
+            column: 1,
+            test: Test::Between(None, Some(year)),
+        };
+        filters.push(years).ok().expect(rt, "memory");
+    }
+    filters
+}
+
+// Downwards by a column of the answer, if one is given.
+fn order(rt: &impl Abort, alloc: Global, down: Option<u32>) -> OrderKeys {
+    let mut order = OrderKeys::new(alloc);
+    if let Some(place) = down {
+        assert!(rt; order.push(OrderKey { place, down: true }).is_ok());
+    }
+    order
+}
+
+// A query, without its source.
+#[derive(Clone, Copy)]
+struct Asked<'a> {
+    until: Option<i64>,
+    dims: &'a [u32],
+    measures: &'a [Measure],
+    down: Option<u32>,
+    top: Option<u32>,
+}
+
+fn query(rt: &impl Abort, alloc: Global, asked: &Asked<'_>) -> Canon {
+    Canon::new(Query {
         source: 0,
-        filters: List::new(alloc),
-        dims,
-        measures,
-        order: List::new(alloc),
-        top: None,
-    }))
+        filters: filters(rt, alloc, asked.until),
+        dims: List::from_vec(asked.dims.to_vec(alloc).ok().expect(rt, "memory")),
+        measures: List::from_vec(asked.measures.to_vec(alloc).ok().expect(rt, "memory")),
+        order: order(rt, alloc, asked.down),
+        top: asked.top,
+    })
 }
 
-fn check_length(rt: &impl Abort, alloc: Global, dims: Numbers, want: u64) {
-    let key = rows_by(alloc, dims).ok().expect(rt, "memory");
-    let table = evaluate(alloc, &nothing(alloc), &key)
+fn spell_cell(rt: &impl Abort, alloc: Global, line: &mut Text, cell: &Cell) {
+    let spelled = match cell {
+        Cell::Null => line.append(b"-"),
+        Cell::Whole(number) => {
+            let digits = format!(in alloc; "{number}").ok().expect(rt, "memory");
+            line.append(digits.as_bytes())
+        }
+        Cell::Word(text) => line.append(text.bytes()),
+        Cell::Ratio(ratio) => {
+            let quotient = format!(in alloc; "{}/{}", ratio.sum(), ratio.count());
+            line.append(quotient.ok().expect(rt, "memory").as_bytes())
+        }
+    };
+    assert!(rt; spelled.is_ok());
+}
+
+fn spell_row(rt: &impl Abort, alloc: Global, line: &mut Text, row: &Cells) {
+    for cell in row.as_slice() {
+        spell_cell(rt, alloc, line, cell);
+        assert!(rt; line.append(b"|").is_ok());
+    }
+    assert!(rt; line.append(b";").is_ok());
+}
+
+fn spell_table(rt: &impl Abort, alloc: Global, table: &Table) -> Text {
+    let mut line = Text::new(alloc);
+    for row in table.as_slice() {
+        spell_row(rt, alloc, &mut line, row);
+    }
+    line
+}
+
+fn spell_quick(rt: &impl Abort, alloc: Global, extract: &Extract, key: &Canon) -> Text {
+    let table = evaluate(alloc, extract, key).ok().expect(rt, "memory");
+    spell_table(rt, alloc, &table)
+}
+
+fn spell_plain(rt: &impl Abort, alloc: Global, extract: &Extract, key: &Canon) -> Text {
+    let table = evaluate_plainly(alloc, extract, key)
         .ok()
         .expect(rt, "memory");
-    assert_eq!(rt; table.len(), want);
+    spell_table(rt, alloc, &table)
+}
+
+/// Both evaluations give this answer over an extract.
+fn check_over(rt: &impl Abort, alloc: Global, extract: &Extract, key: &Canon, want: &str) {
+    let quick = spell_quick(rt, alloc, extract, key);
+    assert_eq!(rt; quick.bytes(), want.as_bytes(), "{want}");
+    let plain = spell_plain(rt, alloc, extract, key);
+    assert_eq!(rt; plain.bytes(), want.as_bytes(), "{want}");
+}
+
+/// Both evaluations give this answer over the sales, in one segment and in two.
+fn check_sales(rt: &impl Abort, alloc: Global, asked: &Asked<'_>, want: &str) {
+    let key = query(rt, alloc, asked);
+    check_over(rt, alloc, &sales_in_one(rt, alloc), &key, want);
+    check_over(rt, alloc, &sales_in_two(rt, alloc), &key, want);
+}
+
+/// Both evaluations give this answer over no rows.
+fn check_empty(rt: &impl Abort, alloc: Global, asked: &Asked<'_>, want: &str) {
+    let key = query(rt, alloc, asked);
+    check_over(rt, alloc, &no_sales(rt, alloc), &key, want);
 }
 
 #[test]
-fn totals_stand_over_no_rows(rt: HostRuntime) {
+fn groups_are_told(rt: HostRuntime) {
     let alloc = rt.alloc();
-    let mut region = List::new(alloc);
-    assert!(rt; region.push(0).is_ok());
-    check_length(&rt, alloc, List::new(alloc), 1);
-    check_length(&rt, alloc, region, 0);
+    let by_region = Asked {
+        until: None,
+        dims: &[0],
+        measures: &[Measure::Sum(2), Measure::Rows],
+        down: None,
+        top: None,
+    };
+    check_sales(&rt, alloc, &by_region, "-|4|1|;East|15|2|;West|7|2|;");
+    check_empty(&rt, alloc, &by_region, "");
 }
 
 #[test]
-fn no_row_is_counted(rt: HostRuntime) {
+fn totals_are_told(rt: HostRuntime) {
     let alloc = rt.alloc();
-    let key = rows_by(alloc, List::new(alloc)).ok().expect(&rt, "memory");
-    let table = evaluate(alloc, &nothing(alloc), &key)
-        .ok()
-        .expect(&rt, "memory");
-    let count = table.get(0).and_then(|row| row.get(0));
-    assert!(rt; matches!(count, Some(Cell::Whole(0))));
+    let totals = Asked {
+        until: None,
+        dims: &[],
+        measures: &[
+            Measure::Count(2),
+            Measure::Distinct(1),
+            Measure::Min(2),
+            Measure::Max(2),
+            Measure::Avg(2),
+        ],
+        down: None,
+        top: None,
+    };
+    check_sales(&rt, alloc, &totals, "4|2|4|10|26/4|;");
+    check_empty(&rt, alloc, &totals, "0|0|-|-|-|;");
+}
+
+#[test]
+fn first_rows_are_told(rt: HostRuntime) {
+    let alloc = rt.alloc();
+    let largest = Asked {
+        until: None,
+        dims: &[0],
+        measures: &[Measure::Rows],
+        down: Some(2),
+        top: Some(2),
+    };
+    check_sales(&rt, alloc, &largest, "East|2|;West|2|;");
+}
+
+#[test]
+fn kept_rows_are_told(rt: HostRuntime) {
+    let alloc = rt.alloc();
+    let early = Asked {
+        until: Some(2020),
+        dims: &[0],
+        measures: &[Measure::Rows, Measure::Min(2)],
+        down: None,
+        top: None,
+    };
+    check_sales(&rt, alloc, &early, "East|1|10|;West|1|7|;");
 }

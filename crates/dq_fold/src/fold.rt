@@ -163,7 +163,7 @@ fn rows_of(alloc: Global, groups: &Groups) -> Result<Vec<Cells>, Memory>
 }
 
 /// The first rows, or all without a top.
-fn first_of(table: Table, top: Option<u32>) -> Table
+pub fn first_of(table: Table, top: Option<u32>) -> Table
     ensures { result ≡ first_rows top table }
 {
     let mut first = table;

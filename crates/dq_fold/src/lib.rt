@@ -19,7 +19,10 @@ mod tally;
 mod total;
 
 pub use answers::answer_of;
-pub use fold::Fold;
+pub use fold::{Fold, first_of};
+pub use keeps::is_kept;
+pub use order::sort_rows;
+pub use tally::cell_from;
 
 #[cfg(test)]
 mod tests;

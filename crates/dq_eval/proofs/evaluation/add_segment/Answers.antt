@@ -1,5 +1,4 @@
-use Rattle.std.proofs.Common.{◌<◌, length, arith, ap, sym, ◌∙◌}
-use Rattle.dq_extract.specs.Segments.{rows_in}
+use Rattle.std.proofs.Common.{arith, ap, sym, ◌∙◌}
 use Rattle.dq_eval.proofs.More.{row_within, segment_added}
 use Rattle.dq_eval.proofs.evaluation.add_segment.Goals as goal
 
