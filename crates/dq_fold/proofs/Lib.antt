@@ -3,6 +3,7 @@ pub mod Inserts
 pub mod Joined
 pub mod Mapped
 pub mod Merged
+pub mod Placed
 pub mod Searched
 pub mod Settled
 pub mod Sizes

@@ -1,3 +1,4 @@
 pub mod Folding
+pub mod Placed
 pub mod Sums
 pub mod Tallies

@@ -2,14 +2,13 @@ ghost use Rattle.std.specs.Prelude.{◌≡◌, ◌+◌, ◌^◌, ◌<◌, ◌≤
 ghost use Rattle.dq_base.specs.Answers.{answer, first_rows};
 ghost use Rattle.dq_base.specs.Canonical.{IsCanonical};
 ghost use Rattle.dq_base.specs.declared.value.Value.{Value as ValueOf};
-ghost use Rattle.dq_fold.specs.Folding.{AllSmall, AreMergeable, IsGroups, folded, group_cells, groups_of, merged_groups};
+ghost use Rattle.dq_fold.specs.Folding.{IsGroups, folded, groups_of};
 
-use crate::groups::{Groups, add_row, cells_of, fill, merge_group, no_tallies};
+use crate::groups::{Groups, add_row, fill, merge_groups, no_tallies, rows_of};
 use crate::keeps::is_kept;
 use crate::order::sort_rows;
-use dq_base::{Canon, Cells, List, Memory, Query, Table, Value, Values};
+use dq_base::{Canon, List, Memory, Query, Table, Value, Values};
 use std::alloc::Global;
-use std::collections::BTreeMap;
 use std::marker::Model;
 
 /// The groups of the rows that were added, for one query. Contracts see it as the query, the groups by key, how many rows
@@ -29,9 +28,9 @@ impl Model for Fold {
 
     ghost Value = { Folded };
 
-    ghost view = { λ f. record { key = f.key; groups = f.groups.entries; rows = f.rows; spent = f.spent } };
+    ghost view = { λ f. record { key = f.key; groups = f.groups; rows = f.rows; spent = f.spent } };
 
-    ghost invariant = { λ f. IsFolding (record { key = f.key; groups = f.groups.entries; rows = f.rows; spent = f.spent }) };
+    ghost invariant = { λ f. IsFolding (record { key = f.key; groups = f.groups; rows = f.rows; spent = f.spent }) };
 }
 
 impl Fold {
@@ -108,14 +107,14 @@ impl Fold {
 
 /// The groups over no rows: one without dimensions, and else none.
 fn first_groups(alloc: Global, q: &Query) -> Result<Groups, Memory>
-    ensures { IfOk result (λ groups. groups.entries ≡ groups_of q.now []) }
+    ensures { IfOk result (λ groups. groups ≡ groups_of q.now []) }
 {
-    let mut groups = BTreeMap::new(alloc);
+    let mut groups = Groups::new(alloc);
     if q.dims.len() != 0 {
         return Ok(groups);
     }
     let tallies = no_tallies(alloc, q.measures.as_slice())?;
-    groups.insert(List::new(alloc), tallies)?;
+    groups.insert(alloc, List::new(alloc), tallies)?;
     Ok(groups)
 }
 
@@ -128,8 +127,8 @@ fn add_to_groups(
     row: &[Value],
 ) -> Result<(), Memory>
     requires canonical { IsCanonical q.now }
-    requires groups { IsGroups q.now groups.old.entries }
-    ensures { OnOk result ((rows : ListOf (ListOf ValueOf)) → groups.old.entries ≡ groups_of q.now rows → groups.new.entries ≡ groups_of q.now (rows ++ row.now ∷ [])) }
+    requires groups { IsGroups q.now groups.old }
+    ensures { OnOk result ((rows : ListOf (ListOf ValueOf)) → groups.old ≡ groups_of q.now rows → groups.new ≡ groups_of q.now (rows ++ row.now ∷ [])) }
 {
     if !is_kept(q, row) {
         return Ok(());
@@ -137,29 +136,6 @@ fn add_to_groups(
     fill(alloc, buffer, q.dims.as_slice(), row)?;
     add_row(alloc, groups, buffer, q.measures.as_slice(), row)?;
     Ok(())
-}
-
-/// Merges each of other groups into the groups.
-fn merge_groups(alloc: Global, groups: &mut Groups, others: Groups) -> Result<(), Memory>
-    requires { AreMergeable groups.old.entries others.entries }
-    ensures { OnOk result (groups.new.entries ≡ merged_groups groups.old.entries others.entries) }
-{
-    for (key, tallies) in others {
-        merge_group(alloc, groups, key, tallies)?;
-    }
-    Ok(())
-}
-
-/// The answer's rows, in the order of keys.
-fn rows_of(alloc: Global, groups: &Groups) -> Result<Vec<Cells>, Memory>
-    requires { AllSmall groups.now.entries }
-    ensures { IfOk result (λ rows. rows.items ≡ map group_cells groups.now.entries) }
-{
-    let mut rows = Vec::new(alloc);
-    for (key, tallies) in groups.iter() {
-        rows.push(cells_of(alloc, key, tallies)?)?;
-    }
-    Ok(rows)
 }
 
 /// The first rows, or all without a top.

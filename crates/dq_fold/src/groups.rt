@@ -1,25 +1,74 @@
-ghost use Rattle.std.specs.Prelude.{◌≡◌, ◌+◌, ◌^◌, ◌<◌, ◌≤◌, ◌++◌, ◌∷◌, [], List as ListOf, Some, None, IfOk, OnOk, length, map, take};
-ghost use Rattle.std.specs.BTreeMap.{get, insert_entry, is_at};
+ghost use Rattle.std.specs.Prelude.{◌≡◌, ◌+◌, ◌^◌, ◌<◌, ◌≤◌, ◌++◌, ◌∷◌, [], List as ListOf, Some, None, IfOk, OnOk, length, map, slice_get, take};
+ghost use Rattle.std.specs.BTreeMap.{insert_entry, is_at};
 ghost use Rattle.std.specs.List.{All};
-ghost use Rattle.std.specs.Map.{set_value};
+ghost use Rattle.std.specs.Map.{lookup, set_value};
 ghost use Rattle.dq_base.specs.Answers.{cell_of, key_of};
 ghost use Rattle.dq_base.specs.Filters.{value_at};
 ghost use Rattle.dq_base.specs.Orders.{key_cmp};
 ghost use Rattle.dq_base.specs.declared.value.Value.TheVariants.{Word};
-ghost use Rattle.dq_fold.specs.Folding.{IsMergeable, merged_in};
+ghost use Rattle.dq_fold.specs.Folding.{AllSmall, AreMergeable, IsMergeable, group_cells, merged_groups, merged_in};
+ghost use Rattle.dq_fold.specs.Placed.{SetsTallies, emptied, entry_at, tallies_in};
 ghost use Rattle.dq_fold.specs.Tallies.{Mergeable, added, count_in, merged_all, tally_cell, tally_of};
+ghost use Rattle.dq_fold.specs.declared.slots.Slot.{Slot as SlotOf};
 ghost use Rattle.dq_fold.specs.declared.tally.Tally.{Tally as TallyOf};
 
+use crate::slots::{Hints, Places, Slot, Tallies, place_of, widen};
 use crate::tally::{Tally, cell_from};
 use dq_base::{Cells, Duplicate, List, Measure, Memory, Text, Value, Values};
 use std::alloc::Global;
 use std::collections::BTreeMap;
+use std::marker::Model;
+use std::mem::replace;
 
-/// The tallies of a group, one for each measure.
-pub type Tallies = List<Tally>;
+/// Groups by key. Contracts see them as pairs in the order of keys.
+#[derive(Drop)]
+pub struct Groups {
+    places: Places,
+    slots: List<Slot>,
+    hints: Hints,
+}
 
-/// Groups by key, in the order of keys.
-pub type Groups = BTreeMap<Values, Tallies>;
+impl Model for Groups {
+    ghost use Rattle.std.specs.Prelude.{List};
+    ghost use Rattle.dq_base.specs.declared.value.Value.{Value as OneValue};
+    ghost use Rattle.dq_fold.specs.declared.tally.Tally.{Tally};
+    ghost use Rattle.dq_fold.specs.Placed.{AreNumbered, entries_at, slot_keys};
+
+    ghost Value = { List (List OneValue × List Tally) };
+
+    ghost view = { λ g. entries_at g.slots g.places.entries };
+
+    ghost invariant = { λ g. AreNumbered (slot_keys g.slots) g.places.entries };
+}
+
+impl Groups {
+    /// No groups. It takes no memory.
+    pub fn new(alloc: Global) -> Groups
+        ensures { result ≡ [] }
+    {
+        Groups {
+            places: BTreeMap::new(alloc),
+            slots: List::new(alloc),
+            hints: List::new(alloc),
+        }
+    }
+
+    /// Puts a group in, whose key isn't there.
+    pub fn insert(&mut self, alloc: Global, key: Values, tallies: Tallies) -> Result<(), Memory>
+        requires { lookup (is_at (key_cmp key)) self.old ≡ None }
+        ensures { OnOk result (self.new ≡ insert_entry key_cmp self.old key tallies) }
+    {
+        let place = self.slots.len();
+        widen(alloc, &mut self.hints, place)?;
+        let copy = key.duplicate(alloc)?;
+        self.slots.push(Slot { key: copy, tallies })?;
+        if self.places.insert(key, place).is_err() {
+            self.slots.truncate(place as usize);
+            return Err(Memory);
+        }
+        Ok(())
+    }
+}
 
 /// Makes a text another, in the memory that it has.
 fn refill(old: &mut Text, text: &Text) -> Result<(), Memory>
@@ -120,7 +169,7 @@ fn add_to(alloc: Global, tallies: &mut Tallies, row: &[Value]) -> Result<(), Mem
     Ok(())
 }
 
-/// Puts a group of one row in.
+/// Puts a group of one row in, whose key isn't there.
 fn add_group(
     alloc: Global,
     groups: &mut Groups,
@@ -128,12 +177,22 @@ fn add_group(
     measures: &[Measure],
     row: &[Value],
 ) -> Result<(), Memory>
-    ensures { OnOk result (groups.new.entries ≡ insert_entry key_cmp groups.old.entries key.now (map (added row.now) (map (tally_of []) measures.now))) }
+    requires { lookup (is_at (key_cmp key.now)) groups.old ≡ None }
+    ensures { OnOk result (groups.new ≡ insert_entry key_cmp groups.old key.now (map (added row.now) (map (tally_of []) measures.now))) }
 {
     let mut tallies = no_tallies(alloc, measures)?;
     add_to(alloc, &mut tallies, row)?;
-    groups.insert(key.duplicate(alloc)?, tallies)?;
+    groups.insert(alloc, key.duplicate(alloc)?, tallies)?;
     Ok(())
+}
+
+/// Adds a row to the tallies of the slot at a place.
+fn add_at(alloc: Global, slots: &mut List<Slot>, place: u64, row: &[Value]) -> Result<(), Memory>
+    requires there { place < length slots.old }
+    requires few { (s : SlotOf) → slice_get slots.old place ≡ Some s → All (λ t. count_in t < 2 ^ 23) s.tallies }
+    ensures { SetsTallies slots.old slots.new place (λ ts us. OnOk result (us ≡ map (added row.now) ts)) }
+{
+    add_to(alloc, &mut slots.item_mut(place as usize).tallies, row)
 }
 
 /// Adds a row to the group of its key. Only a new group takes memory, but for what its tallies take.
@@ -144,12 +203,17 @@ pub fn add_row(
     measures: &[Measure],
     row: &[Value],
 ) -> Result<(), Memory>
-    requires { (tallies : ListOf TallyOf) → get key_cmp groups.old key.now ≡ Some tallies → All (λ t. count_in t < 2 ^ 23) tallies }
-    ensures there { OnOk result ((tallies : ListOf TallyOf) → get key_cmp groups.old key.now ≡ Some tallies → groups.new.entries ≡ set_value (is_at (key_cmp key.now)) groups.old.entries (map (added row.now) tallies)) }
-    ensures absent { OnOk result (get key_cmp groups.old key.now ≡ None → groups.new.entries ≡ insert_entry key_cmp groups.old.entries key.now (map (added row.now) (map (tally_of []) measures.now))) }
+    requires { (tallies : ListOf TallyOf) → lookup (is_at (key_cmp key.now)) groups.old ≡ Some tallies → All (λ t. count_in t < 2 ^ 23) tallies }
+    ensures there { OnOk result ((tallies : ListOf TallyOf) → lookup (is_at (key_cmp key.now)) groups.old ≡ Some tallies → groups.new ≡ set_value (is_at (key_cmp key.now)) groups.old (map (added row.now) tallies)) }
+    ensures absent { OnOk result (lookup (is_at (key_cmp key.now)) groups.old ≡ None → groups.new ≡ insert_entry key_cmp groups.old key.now (map (added row.now) (map (tally_of []) measures.now))) }
 {
-    match groups.get_mut(key) {
-        Some(tallies) => add_to(alloc, tallies, row),
+    match place_of(
+        &groups.places,
+        groups.slots.as_slice(),
+        &mut groups.hints,
+        key,
+    ) {
+        Some(place) => add_at(alloc, &mut groups.slots, place, row),
         None => add_group(alloc, groups, key, measures, row),
     }
 }
@@ -165,22 +229,38 @@ fn merge_tallies(alloc: Global, tallies: &mut Tallies, others: &Tallies) -> Resu
     Ok(())
 }
 
+/// Merges other tallies into those of the slot at a place.
+fn merge_at(
+    alloc: Global,
+    slots: &mut List<Slot>,
+    place: u64,
+    others: &Tallies,
+) -> Result<(), Memory>
+    requires there { place < length slots.old }
+    requires fit { (s : SlotOf) → slice_get slots.old place ≡ Some s → Mergeable s.tallies others.now }
+    ensures { SetsTallies slots.old slots.new place (λ ts us. OnOk result (us ≡ merged_all ts others.now)) }
+{
+    merge_tallies(alloc, &mut slots.item_mut(place as usize).tallies, others)
+}
+
 /// Merges a group into that of its key, or puts it in where there is none.
-pub fn merge_group(
+fn merge_group(
     alloc: Global,
     groups: &mut Groups,
     key: Values,
     tallies: Tallies,
 ) -> Result<(), Memory>
-    requires { IsMergeable groups.old.entries (key, tallies) }
-    ensures { OnOk result (groups.new.entries ≡ merged_in groups.old.entries (key, tallies)) }
+    requires { IsMergeable groups.old (key, tallies) }
+    ensures { OnOk result (groups.new ≡ merged_in groups.old (key, tallies)) }
 {
-    match groups.get_mut(&key) {
-        Some(own) => merge_tallies(alloc, own, &tallies),
-        None => {
-            groups.insert(key, tallies)?;
-            Ok(())
-        }
+    match place_of(
+        &groups.places,
+        groups.slots.as_slice(),
+        &mut groups.hints,
+        &key,
+    ) {
+        Some(place) => merge_at(alloc, &mut groups.slots, place, &tallies),
+        None => groups.insert(alloc, key, tallies),
     }
 }
 
@@ -199,4 +279,58 @@ pub fn cells_of(alloc: Global, key: &Values, tallies: &Tallies) -> Result<Cells,
         row.push(tally.cell(alloc)?)?;
     }
     Ok(row)
+}
+
+/// The answer's row of the slot at a place, of the key alone where there is no slot.
+fn cells_at(alloc: Global, key: &Values, slots: &[Slot], place: u64) -> Result<Cells, Memory>
+    requires { All (λ t. count_in t ≤ 2 ^ 23) (tallies_in (slice_get slots.now place)) }
+    ensures { IfOk result (λ row. row ≡ group_cells (entry_at slots.now (key.now, place))) }
+{
+    match slots.get(place as usize) {
+        Some(slot) => cells_of(alloc, key, &slot.tallies),
+        None => cells_of(alloc, key, &List::new(alloc)),
+    }
+}
+
+/// The answer's rows, in the order of keys.
+pub fn rows_of(alloc: Global, groups: &Groups) -> Result<Vec<Cells>, Memory>
+    requires { AllSmall groups.now }
+    ensures { IfOk result (λ rows. rows.items ≡ map group_cells groups.now) }
+{
+    let slots = groups.slots.as_slice();
+    let mut rows = Vec::new(alloc);
+    for (key, place) in groups.places.iter() {
+        rows.push(cells_at(alloc, key, slots, *place)?)?;
+    }
+    Ok(rows)
+}
+
+/// Takes the tallies of the slot at a place, none where there is no slot.
+fn take_at(alloc: Global, slots: &mut List<Slot>, place: u64) -> Tallies
+    ensures taken { result ≡ tallies_in (slice_get slots.old place) }
+    ensures rest { slots.new ≡ emptied slots.old place }
+{
+    if place < slots.len() {
+        replace(
+            &mut slots.item_mut(place as usize).tallies,
+            List::new(alloc),
+        )
+    } else {
+        List::new(alloc)
+    }
+}
+
+/// Merges each of other groups into the groups.
+pub fn merge_groups(alloc: Global, groups: &mut Groups, others: Groups) -> Result<(), Memory>
+    requires { AreMergeable groups.old others }
+    ensures { OnOk result (groups.new ≡ merged_groups groups.old others) }
+{
+    let Groups { places, slots, .. } = others;
+    let _ordered = places.len();
+    let mut rest = slots;
+    for (key, place) in places {
+        let tallies = take_at(alloc, &mut rest, place);
+        merge_group(alloc, groups, key, tallies)?;
+    }
+    Ok(())
 }

@@ -15,6 +15,7 @@ mod groups;
 mod keeps;
 mod order;
 mod seen;
+mod slots;
 mod tally;
 mod total;
 

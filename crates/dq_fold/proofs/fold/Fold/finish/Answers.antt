@@ -12,5 +12,5 @@ rows_of-requires c =
 
 pub returns : goal.returns
 returns c = λ rows e.
-    answered c.query-q.result.now c.args.self.key rows c.self.inside.groups.entries c.in_ok-rows.rows.items c.sort_rows.new.rows.items c.from_vec.result c.first_of.result
+    answered c.query-q.result.now c.args.self.key rows c.self.inside.groups c.in_ok-rows.rows.items c.sort_rows.new.rows.items c.from_vec.result c.first_of.result
     (c.query-q.ensures.same ∙ ap (λ f. f.key) c.self.view_is) (ap (λ f. f.groups) (c.self.view_is ∙ e)) c.in_ok-rows.ensures c.in_ok-sort_rows.ensures c.from_vec.ensures c.first_of.ensures

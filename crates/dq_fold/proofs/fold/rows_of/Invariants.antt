@@ -1,6 +1,0 @@
-use Rattle.std.proofs.Common.{◌≡◌, ◌++◌, map}
-use Rattle.dq_fold.specs.Folding.{AllSmall, group_cells}
-use Rattle.dq_fold.proofs.fold.rows_of.Given as goal
-
-abbrev pub invariant-loop-key : goal.invariant-loop-key
-invariant-loop-key l = (l.rows.items ++ map group_cells l.key-iterator ≡ map group_cells l.groups.entries) × AllSmall l.key-iterator
