@@ -117,10 +117,11 @@ module _ (g h : List Value → List Tally) where
   all_mergeable [] ks f ao ak c = tt
   all_mergeable (k ∷ os) ks f ao ak c =
       let P : List Tally → Type 0 = λ ts. Mergeable ts (g k) in
-      let Q : List (List Value × List Tally) → Type 0 = λ es. AreMergeable es (entries_by g os) in
-      (λ ts e. subst P (same_some (has key_cmp ks k) (f k) ts (sym (lookup_mapped key_cmp exact_keys k f ks) ∙ e)) c.0.small,
-       subst Q (sym (step f ks k ak c.0))
-       (all_mergeable os (with key_cmp k ks) (changed_at f h k) ao.1 (ascends_with key_cmp keys_total k ks ak) (each_later f ks k os ao.0 c.1)))
+      let Q : List (List Value × List Tally) → Type 0 = λ es. AreMergeable es (entries_by g os) in (
+        λ ts e. subst P (same_some (has key_cmp ks k) (f k) ts (sym (lookup_mapped key_cmp exact_keys k f ks) ∙ e)) c.0.small,
+        subst Q (sym (step f ks k ak c.0))
+            (all_mergeable os (with key_cmp k ks) (changed_at f h k) ao.1 (ascends_with key_cmp keys_total k ks ak) (each_later f ks k os ao.0 c.1)),
+      )
 
 keys_append : (dims : List ℕ) (rows more : List (List Value)) → with_each key_cmp (keys_of dims rows) (keys_of dims more) ≡ keys_of dims (rows ++ more)
 keys_append [] rows more = refl
