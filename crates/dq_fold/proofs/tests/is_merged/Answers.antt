@@ -1,4 +1,4 @@
-use Rattle.std.proofs.Common.{◌≡◌, ap, sym, ◌∙◌}
+use Rattle.std.proofs.Common.{ap, sym, ◌∙◌}
 use Rattle.dq_base.specs.declared.query.Query.{Query}
 use Rattle.dq_fold.specs.Folding.{folded}
 use Rattle.dq_fold.proofs.tests.is_merged.Goals as goal
