@@ -1,15 +1,15 @@
 -- The groups of rows, and those of more rows merged into them.
 use Rattle.std.proofs.Common.{◌≡◌, ℕ, ◌+◌, ◌^◌, ◌≤◌, Bool, true, false, ◌||◌, cond, List, [], ◌∷◌, ◌++◌, map, length, refl, sym, ap, ◌∙◌, subst, Some, None, arith, length-append}
-use Rattle.std.specs.List.{fold, list_any}
+use Rattle.std.specs.List.{list_any}
 use Rattle.std.specs.declared.cmp.Ordering.{Ordering}
 use Rattle.std.specs.declared.cmp.Ordering.TheVariants.{Less, Equal, Greater}
 use Rattle.std.specs.Ordering.{is_eq}
 use Rattle.std.specs.BTreeMap.{insert_entry, is_at}
-use Rattle.std.specs.Map.{lookup, set_value}
+use Rattle.std.specs.Map.{set_value}
 use Rattle.std.proofs.lemmas.Cmp.{eq_by_cmp_equiv, tied_itself}
 use Rattle.std.proofs.lemmas.List.{append-nil, map-append}
 use Rattle.std.proofs.lemmas.List.Elements.{filter-append}
-use Rattle.dq_base.specs.Answers.{key_of, keys, keys_of, rows_with}
+use Rattle.dq_base.specs.Answers.{key_of, keys_of, rows_with}
 use Rattle.dq_base.specs.Filters.{keeps, kept}
 use Rattle.dq_base.specs.Orders.{key_cmp}
 use Rattle.dq_base.specs.Sets.{has, put_by, set_of, with}
@@ -18,7 +18,7 @@ use Rattle.dq_base.proofs.SetLaws.{Ascends, Each, ascends_with}
 use Rattle.dq_base.specs.declared.value.Value.{Value}
 use Rattle.dq_base.specs.declared.query.Measure.{Measure}
 use Rattle.dq_base.specs.declared.query.Query.{Query}
-use Rattle.dq_fold.specs.Folding.{AreMergeable, Folded, entries_by, folded, groups_of, merged_by, merged_groups, merged_in, tallies_of}
+use Rattle.dq_fold.specs.Folding.{AreMergeable, entries_by, folded, groups_of, merged_by, merged_groups, merged_in, tallies_of}
 use Rattle.dq_fold.specs.Tallies.{Mergeable, merged_all, tally_of}
 use Rattle.dq_fold.specs.declared.tally.Tally.{Tally}
 use Rattle.dq_fold.proofs.Grouped.{ascends_keys, keys_total, no_rows, same_some}
@@ -117,10 +117,11 @@ module _ (g h : List Value → List Tally) where
   all_mergeable [] ks f ao ak c = tt
   all_mergeable (k ∷ os) ks f ao ak c =
       let P : List Tally → Type 0 = λ ts. Mergeable ts (g k) in
-      let Q : List (List Value × List Tally) → Type 0 = λ es. AreMergeable es (entries_by g os) in
-      (λ ts e. subst P (same_some (has key_cmp ks k) (f k) ts (sym (lookup_mapped key_cmp exact_keys k f ks) ∙ e)) c.0.small,
-       subst Q (sym (step f ks k ak c.0))
-       (all_mergeable os (with key_cmp k ks) (changed_at f h k) ao.1 (ascends_with key_cmp keys_total k ks ak) (each_later f ks k os ao.0 c.1)))
+      let Q : List (List Value × List Tally) → Type 0 = λ es. AreMergeable es (entries_by g os) in (
+        λ ts e. subst P (same_some (has key_cmp ks k) (f k) ts (sym (lookup_mapped key_cmp exact_keys k f ks) ∙ e)) c.0.small,
+        subst Q (sym (step f ks k ak c.0))
+            (all_mergeable os (with key_cmp k ks) (changed_at f h k) ao.1 (ascends_with key_cmp keys_total k ks ak) (each_later f ks k os ao.0 c.1)),
+      )
 
 keys_append : (dims : List ℕ) (rows more : List (List Value)) → with_each key_cmp (keys_of dims rows) (keys_of dims more) ≡ keys_of dims (rows ++ more)
 keys_append [] rows more = refl

@@ -18,11 +18,12 @@ invariant_of-self-2 c = λ fresh.
     let own = c.self.invariant (ap (λ f. f.spent) c.self.view_is ∙ c.requires.fresh) in
     let others = c.other.invariant (ap (λ f. f.spent) c.other.view_is ∙ c.requires.other) in
     let same : c.other.inside.key ≡ c.self.inside.key = ap (λ f. f.key) c.other.view_is ∙ c.requires.same ∙ sym (ap (λ f. f.key) c.self.view_is) in
-    let few : c.self.inside.rows + c.other.inside.rows ≤ 2 ^ 23 = omega (arith, c.requires.room, ap (λ f. f.rows) c.self.view_is, ap (λ f. f.rows) c.other.view_is) in
-    (own.0 ++ others.0,
-     folds_merged c.self.inside.key c.self.inside.key own.0 others.0 c.self.inside.groups.entries c.other.inside.groups.entries c.merge_groups.new.groups.entries c.self.inside.rows c.other.inside.rows
-     refl (ap (λ f. f.groups) own.1) (ap (λ f. f.groups) others.1 ∙ ap (λ (q : Query). groups_of q others.0) same) (ap (λ f. f.rows) own.1) (ap (λ f. f.rows) others.1) few c.in_ok-merge_groups.ensures,
-     few)
+    let few : c.self.inside.rows + c.other.inside.rows ≤ 2 ^ 23 = omega (arith, c.requires.room, ap (λ f. f.rows) c.self.view_is, ap (λ f. f.rows) c.other.view_is) in (
+      own.0 ++ others.0,
+      folds_merged c.self.inside.key c.self.inside.key own.0 others.0 c.self.inside.groups.entries c.other.inside.groups.entries c.merge_groups.new.groups.entries c.self.inside.rows c.other.inside.rows
+          refl (ap (λ f. f.groups) own.1) (ap (λ f. f.groups) others.1 ∙ ap (λ (q : Query). groups_of q others.0) same) (ap (λ f. f.rows) own.1) (ap (λ f. f.rows) others.1) few c.in_ok-merge_groups.ensures,
+      few,
+    )
 
 pub returns-clause-ok : goal.returns-clause-ok
 returns-clause-ok c = λ rows more e o.
