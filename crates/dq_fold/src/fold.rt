@@ -53,7 +53,8 @@ impl Fold {
     /// Adds a row. A column that it lacks reads as null. After an `Err` the fold is spent, and can only be dropped.
     ///
     /// A row that isn't kept costs its predicates times the logarithm of their lists only. A row of a known group costs a
-    /// look-up among the groups, and an addition for each measure.
+    /// look-up among the groups, mostly one comparison and at most the logarithm of the groups, and an addition for each
+    /// measure.
     pub fn add(&mut self, values: &[Value]) -> Result<(), Memory>
         requires fresh { self.old.spent ≡ false }
         requires room { self.old.rows < 2 ^ 23 }
@@ -76,8 +77,9 @@ impl Fold {
     /// Adds the rows of another fold of the same query, after the rows of this one. After an `Err` the fold is spent, and
     /// can only be dropped.
     ///
-    /// A group of the other that this one lacks is moved over. One that both have costs an addition for each measure, and
-    /// for a count of different values one for each of the other's. Each costs a look-up among the groups.
+    /// Each group of the other costs a look-up among the groups. One that this fold lacks is moved over; else there is an
+    /// addition for each measure, and for each of its different values where they are counted. Of a known group only a new
+    /// bound or a new different value takes memory.
     pub fn merge(&mut self, other: Fold) -> Result<(), Memory>
         requires fresh { self.old.spent ≡ false }
         requires other { other.spent ≡ false }

@@ -1,9 +1,10 @@
-ghost use Rattle.std.specs.Prelude.{◌≡◌, ◌≤◌, ◌^◌, IfOk, IfSome, length, map};
+ghost use Rattle.std.specs.Prelude.{◌≡◌, ◌+◌, ◌≤◌, ◌^◌, IfOk, IfSome, length, map};
 ghost use Rattle.dq_base.specs.Canonical.{canonical_predicate, canonical_test, predicate_cmp};
 ghost use Rattle.dq_base.specs.Orders.{value_cmp};
 ghost use Rattle.dq_base.specs.Sets.{set_of};
+ghost use Rattle.dq_fold.specs.Folding.{folded};
 
-use crate::answer_of;
+use crate::{Fold, answer_of};
 use dq_base::{
     Canon, Cell, Cells, List, Measure, Memory, OrderKey, OrderKeys, Predicate, Predicates, Query,
     Table, Test, Text, Value, Values, put,
@@ -173,6 +174,33 @@ fn is_told(alloc: Global, rows: &[Values], case: &Case<'_>) -> Result<bool, Memo
     Ok(is_table(&table, case.want))
 }
 
+fn fold_over(alloc: Global, key: &Canon, rows: &[Values]) -> Result<Fold, Memory>
+    requires { length rows.now ≤ 2 ^ 23 }
+    ensures { IfOk result (λ fold. fold ≡ folded key.now rows.now) }
+{
+    let mut fold = Fold::new(alloc, key)?;
+    for row in rows {
+        fold.add(row.as_slice())?;
+    }
+    Ok(fold)
+}
+
+fn is_merged(
+    alloc: Global,
+    rows: &[Values],
+    more: &[Values],
+    case: &Case<'_>,
+) -> Result<bool, Memory>
+    requires { length rows.now + length more.now ≤ 2 ^ 23 }
+{
+    let key = asked(alloc, case)?;
+    let mut fold = fold_over(alloc, &key, rows)?;
+    let other = fold_over(alloc, &key, more)?;
+    fold.merge(other)?;
+    let table = fold.finish()?;
+    Ok(is_table(&table, case.want))
+}
+
 #[test]
 fn answers_over_sales(rt: HostRuntime) -> Result<(), Fail> {
     let alloc = rt.alloc();
@@ -315,5 +343,27 @@ fn answers_at_the_ends(rt: HostRuntime) -> Result<(), Fail> {
         want: &[&[Whole(18446744073709551614), Over(18446744073709551614, 2)]],
     };
     assert!(rt; is_told(alloc, rows, &sums)?);
+    Ok(())
+}
+
+#[test]
+fn merges_two_folds(rt: HostRuntime) -> Result<(), Fail> {
+    let alloc = rt.alloc();
+    let rows = sales(alloc)?;
+    let rows = rows.as_slice();
+    assert!(rt; rows.len() == 5);
+    let case = Case {
+        keeps: All,
+        dims: &[0],
+        measures: &[Measure::Sum(2), Measure::Rows],
+        down: None,
+        top: None,
+        want: &[
+            &[Null, Whole(4), Whole(1)],
+            &[Word("East"), Whole(15), Whole(2)],
+            &[Word("West"), Whole(7), Whole(2)],
+        ],
+    };
+    assert!(rt; is_merged(alloc, &rows[..2], &rows[2..], &case)?);
     Ok(())
 }
