@@ -2,6 +2,7 @@ pub mod Arrays
 pub mod Columns
 pub mod Drafts
 pub mod Filters
+pub mod Lanes
 pub mod Objects
 pub mod Parts
 pub mod Readings

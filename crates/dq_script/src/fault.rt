@@ -3,7 +3,7 @@ use thiserror::Error;
 /// Why a script isn't read.
 #[derive(Debug, Drop, Error)]
 pub enum ScriptFault {
-    /// The bytes aren't of the first form, which is all that is built.
+    /// The bytes are no script; `read` says where.
     #[error("not built")]
     Unbuilt,
     /// Memory was wanting.

@@ -1,5 +1,4 @@
-ghost use Rattle.std.specs.Prelude.{◌≡◌, [], codes, nat_eq};
-ghost use Rattle.std.specs.List.{list_any};
+ghost use Rattle.std.specs.Prelude.{◌≡◌, [], codes};
 ghost use Rattle.serde_json.specs.View.{view, items_view};
 ghost use Rattle.dq_script.specs.Arrays.{values_after};
 ghost use Rattle.dq_script.specs.Objects.{optional};
@@ -9,6 +8,7 @@ ghost use Rattle.dq_script.specs.Steps.{numbers_of, new_lane, fault_of, next_fau
 
 use crate::arrays::{Reads, read_array};
 use crate::fault::ScriptFault;
+use crate::lane_faults::LaneFaults;
 use crate::objects::has_only;
 use crate::parts::{MOST_WHOLE, number_of};
 use dq_base::{List, Numbers64};
@@ -49,19 +49,12 @@ pub fn read_numbers(alloc: Global, low: u64, value: &Value) -> Result<Numbers64,
     read_array(&ReadsNumber { low }, alloc, value)
 }
 
-// Whether one of these faults is of that lane.
-fn has_lane(faults: &[Fault], lane: u64) -> bool
-    ensures { result ≡ list_any (λ f. nat_eq f.lane lane) faults.now }
-{
-    faults.iter().any(|fault| fault.lane == lane)
-}
-
 // The lane of a fault, which none of these has.
-fn new_lane(earlier: &[Fault], value: &Value) -> Option<u64>
+fn new_lane(earlier: &LaneFaults, value: &Value) -> Option<u64>
     ensures { result ≡ new_lane earlier.now (view value.now) }
 {
     let lane = number_of(value, 1, MOST_WHOLE)?;
-    if has_lane(earlier, lane) {
+    if earlier.has_lane(lane) {
         return None;
     }
     Some(lane)
@@ -88,7 +81,7 @@ fn read_links(alloc: Global, fault: &Value) -> Result<Numbers64, ScriptFault>
 }
 
 // A fault, of a lane that no earlier one has.
-fn read_fault(alloc: Global, earlier: &[Fault], value: &Value) -> Result<Fault, ScriptFault>
+fn read_fault(alloc: Global, earlier: &LaneFaults, value: &Value) -> Result<Fault, ScriptFault>
     ensures { Answers (fault_of earlier.now (view value.now)).value result }
 {
     if !has_only(value, &["lane", "dials", "links"]) {
@@ -110,21 +103,22 @@ fn read_fault(alloc: Global, earlier: &[Fault], value: &Value) -> Result<Fault, 
     }
 }
 
-// Faults in order.
+// Faults in order, whose lanes are looked up in a set.
 fn read_all(alloc: Global, items: &[Value]) -> Result<List<Fault>, ScriptFault>
     ensures { Answers (values_after (λ fs d. (next_fault fs d).value) [] (items_view items.now)) result }
 {
-    let mut faults = List::new(alloc);
+    let mut faults = LaneFaults::new(alloc);
     for item in items {
-        let fault = match read_fault(alloc, faults.as_slice(), item) {
+        let fault = match read_fault(alloc, &faults, item) {
             Ok(fault) => fault,
             Err(fault) => return Err(fault),
         };
-        let Ok(()) = faults.push(fault) else {
+        let Ok(more) = faults.with(fault) else {
             return Err(ScriptFault::Memory);
         };
+        faults = more;
     }
-    Ok(faults)
+    Ok(faults.into_list())
 }
 
 // An array of faults.

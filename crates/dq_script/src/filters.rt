@@ -10,7 +10,7 @@ use crate::arrays::{Reads, read_array};
 use crate::fault::ScriptFault;
 use crate::names::{Names, column_at};
 use crate::objects::{has, has_only};
-use crate::parts::{is_null, two_items};
+use crate::parts::{is_null, two_items, whole_of};
 use dq_base::{Predicate, Test, Text, Values};
 use serde_json::Value;
 use std::alloc::Global;
@@ -35,7 +35,7 @@ fn read_value(alloc: Global, value: &Value) -> Result<dq_base::Value, ScriptFaul
     if is_null(value) {
         return Ok(dq_base::Value::Null);
     }
-    match value.as_i64() {
+    match whole_of(value) {
         Some(whole) => Ok(dq_base::Value::Int(whole)),
         None => read_word(alloc, value),
     }
@@ -69,7 +69,7 @@ fn bound_of(value: &Value) -> Option<Option<i64>>
     if is_null(value) {
         return Some(None);
     }
-    match value.as_i64() {
+    match whole_of(value) {
         Some(whole) => Some(Some(whole)),
         None => None,
     }

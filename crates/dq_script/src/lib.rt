@@ -22,6 +22,7 @@ mod fault;
 mod faults;
 mod filters;
 mod known;
+mod lane_faults;
 mod lawful;
 mod making;
 mod measures;

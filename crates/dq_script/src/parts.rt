@@ -3,7 +3,7 @@ ghost use Rattle.std.specs.List.{list_any};
 ghost use Rattle.std.specs.Str.{bytes_eq};
 ghost use Rattle.serde_json.specs.View.{view, items_view};
 ghost use Rattle.dq_script.specs.Readings.{Answers};
-ghost use Rattle.dq_script.specs.Parts.{is_string, string_of, new_name, two, two_items, some, some_items, number_of, place_in, is_null};
+ghost use Rattle.dq_script.specs.Parts.{is_string, string_of, new_name, two, two_items, some, some_items, whole_of, number_of, place_in, is_null};
 
 use crate::fault::ScriptFault;
 use dq_base::Text;
@@ -102,11 +102,18 @@ pub fn some_items(value: &Value) -> Option<&[Value]>
     some(value.as_array()?.as_slice())
 }
 
+// A whole number: none where a number isn't whole, or is outside of i64.
+pub fn whole_of(value: &Value) -> Option<i64>
+    ensures { result ≡ whole_of (view value.now) }
+{
+    value.as_i64()
+}
+
 // A whole number from the one to the other.
 pub fn number_of(value: &Value, low: u64, high: u64) -> Option<u64>
     ensures { result ≡ number_of low high (view value.now) }
 {
-    let whole = value.as_i64()?;
+    let whole = whole_of(value)?;
     if whole < 0 {
         return None;
     }

@@ -111,8 +111,8 @@ fn read_value(alloc: Global, value: &Value) -> Result<Script, ScriptFault>
 ///
 /// `Unbuilt` comes exactly where they are no script: where they are no JSON or JSON of another shape, where a limit is
 /// passed, and where a publication names no extract or a turn or fault no lane. `Memory` may come at any bytes. An `Err`
-/// leaves nothing. The time is that of reading the JSON, and that of comparing the names of extracts with each other,
-/// those of an extract's columns with each other, and each name with those that it may mean.
+/// leaves nothing. The time is that of reading the JSON, and after it linear in the JSON's length, but that each name is
+/// compared with at most 64 others, and the lanes of n faults are put in order in n log n steps.
 pub fn read(alloc: Global, bytes: &[u8]) -> Result<Script, ScriptFault>
     ensures script { AnswersScript (script_of bytes.now) result }
     ensures fits { IfOk result IsScript }

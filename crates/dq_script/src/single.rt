@@ -76,7 +76,7 @@ fn all_fail_nothing(fails: &[Fails]) -> bool
 }
 
 /// Whether a script has one lane, whose steps are one publication by replace and then one batch, an empty schedule, and
-/// nothing that is wanted to fail. The time is linear in the number of lanes.
+/// nothing that is wanted to fail. The time is linear in the length of `fails`, which has an item for each lane.
 pub fn is_single(script: &Script) -> bool
     ensures { result ≡ is_single script.now }
 {

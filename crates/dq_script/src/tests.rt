@@ -9,6 +9,12 @@ const SCRIPT: &str =
 const WHOLE: &str =
     r#"{"form":1,"extracts":[{"name":"a","columns":[["t","text"],["n","whole"]]},{"name":"b","columns":[["u","whole"]]}],"literal":7,"clever":4096,"lanes":[[{"publish":"b","how":"append","file":"b.csv"},{"batch":[{"source":"a","filters":[{"column":"t","among":[null,"x",-3]},{"column":"n","except":[]},{"column":"n","between":[null,9]},{"column":"z","between":[-5,null]}],"by":["n","t"],"show":[["rows"],["count","t"],["sum","n"],["min","n"],["max","t"],["countd","t"],["avg","n"]],"order":[[0,"up"],[4294967295,"down"]],"top":0},{"source":"c","filters":[{"column":"t","among":[]}],"by":["n"],"show":[["sum","n"]]}]}],[]],"schedule":[2,1,1],"faults":[{"lane":2,"links":[0,3],"dials":[1]}]}"#;
 
+// What the script asks, and the same of a column that isn't there, between the least and the most whole number.
+const ASKED: &str = r#""by":["region"],"show":[["sum","amount"]"#;
+
+const FURTHER: &str =
+    r#""filters":[{"column":"area","between":[-9223372036854775808,9223372036854775807]}],"by":["area","year"],"show":[["sum","area"]"#;
+
 // What stands in the script, what stands in its place, and whether that is a script.
 const SHAPES: [(&str, &str, bool); 44] = [
     (r#""form":1"#, r#""form":2"#, false),
@@ -61,7 +67,7 @@ const SHAPES: [(&str, &str, bool); 44] = [
     (r#"]]}]}]]}"#, r#"]]}]}]]}}"#, false),
 ];
 
-const FILTERS: [(&str, &str, bool); 10] = [
+const FILTERS: [(&str, &str, bool); 17] = [
     (
         "\"by\"",
         r#""filters":[{"column":"year","among":[1]}],"by""#,
@@ -74,7 +80,42 @@ const FILTERS: [(&str, &str, bool); 10] = [
     ),
     (
         "\"by\"",
+        r#""filters":[{"column":"year","among":[9223372036854775807]}],"by""#,
+        true,
+    ),
+    (
+        "\"by\"",
         r#""filters":[{"column":"year","among":[9223372036854775808]}],"by""#,
+        false,
+    ),
+    (
+        "\"by\"",
+        r#""filters":[{"column":"year","among":[-9223372036854775808]}],"by""#,
+        true,
+    ),
+    (
+        "\"by\"",
+        r#""filters":[{"column":"year","among":[-9223372036854775809]}],"by""#,
+        false,
+    ),
+    (
+        "\"by\"",
+        r#""filters":[{"column":"year","among":[1.0]}],"by""#,
+        false,
+    ),
+    (
+        "\"by\"",
+        r#""filters":[{"column":"year","among":[1e3]}],"by""#,
+        false,
+    ),
+    (
+        "\"by\"",
+        r#""filters":[{"column":"year","between":[9223372036854775808,null]}],"by""#,
+        false,
+    ),
+    (
+        "\"by\"",
+        r#""filters":[{"column":"year","between":[null,1e3]}],"by""#,
         false,
     ),
     (
@@ -106,7 +147,7 @@ const FILTERS: [(&str, &str, bool); 10] = [
     ),
 ];
 
-const NUMBERS: [(&str, &str, bool); 19] = [
+const NUMBERS: [(&str, &str, bool); 23] = [
     ("\"form\"", r#""literal":0,"form""#, false),
     ("\"form\"", r#""literal":1,"form""#, true),
     ("\"form\"", r#""literal":4097,"form""#, false),
@@ -133,6 +174,18 @@ const NUMBERS: [(&str, &str, bool); 19] = [
         false,
     ),
     ("\"form\"", r#""faults":[{"dials":[1]}],"form""#, false),
+    (
+        "\"lanes\":[",
+        r#""faults":[{"lane":2},{"lane":1}],"lanes":[[],"#,
+        true,
+    ),
+    (
+        "\"lanes\":[",
+        r#""faults":[{"lane":2},{"lane":1},{"lane":2}],"lanes":[[],"#,
+        false,
+    ),
+    ("\"form\"", r#""clever":1e3,"form""#, false),
+    ("\"form\"", r#""clever":9223372036854775808,"form""#, false),
     ("\"by\"", r#""order":[[4294967295,"up"]],"by""#, true),
     ("\"by\"", r#""order":[[4294967296,"up"]],"by""#, false),
     ("\"by\"", r#""order":[[1,"left"]],"by""#, false),
@@ -335,6 +388,27 @@ fn is_second_read(script: &Script) -> bool {
     }
 }
 
+// Whether the column that isn't there has the number of columns, in a filter, a dimension and a measure.
+fn is_further(query: &Query) -> bool {
+    let Some(filter) = query.filters.get(0) else {
+        return false;
+    };
+    is_between(
+        filter,
+        3,
+        Some(-9223372036854775808),
+        Some(9223372036854775807),
+    ) && query.dims.as_slice() == [3, 1].as_slice()
+        && query.measures.as_slice() == [Measure::Sum(3), Measure::Rows].as_slice()
+}
+
+fn is_further_read(script: &Script) -> bool {
+    match zone(script, 0) {
+        Some(query) => query.source == 0 && is_further(query),
+        None => false,
+    }
+}
+
 fn has_sizes(script: &Script) -> bool {
     script.literal == 7
         && script.clever == 4096
@@ -358,6 +432,15 @@ fn reads_whole_scripts(rt: HostRuntime) -> Result<(), Fail> {
     assert!(rt; fails(&script, 0, &[], &[]));
     assert!(rt; fails(&script, 1, &[1], &[0, 3]));
     assert!(rt; !is_single(&script));
+    Ok(())
+}
+
+#[test]
+fn numbers_unknown_columns(rt: HostRuntime) -> Result<(), Fail> {
+    let alloc = rt.alloc();
+    let further = SCRIPT.replace(alloc, ASKED, FURTHER)?;
+    let script = read(alloc, further.as_bytes())?;
+    assert!(rt; is_further_read(&script));
     Ok(())
 }
 
