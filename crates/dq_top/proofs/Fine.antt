@@ -1,16 +1,24 @@
 -- What is told of a run.
-use Rattle.std.proofs.Common.{◌≡◌, ℕ, List, Some, None, Option, Bool, true, false, refl, sym, ap, ◌∙◌, length, inl, inr, ◌⊎◌, arith}
+use Rattle.std.proofs.Common.{◌≡◌, ℕ, List, Some, None, Option, Bool, true, false, refl, sym, ap, ◌∙◌, length, inl, inr, subst, arith}
 use Rattle.std.proofs.lemmas.List.{take_all}
-use Rattle.std.specs.Prelude.{Result, Ok, Err, OnOk, OnErr, ⊤, if◌then◌else◌}
+use Rattle.std.specs.Arc.{arc_value}
+use Rattle.std.specs.Prelude.{Result, Ok, Err, OnOk, OnErr, IfSome, ⊤}
+use Rattle.std.specs.declared.alloc.Global.{Global}
+use Rattle.std.specs.declared.sync.Arc.{Arc}
 use Rattle.dq_extract.specs.Loads.{LoadedFiles}
 use Rattle.dq_outside.specs.Causes.{Rose}
+use Rattle.dq_outside.specs.Reads.{Files}
 use Rattle.dq_outside.specs.Writes.{appended, WritesPrefix}
+use Rattle.dq_journal.specs.Right.{IsRight}
+use Rattle.dq_journal.specs.declared.entry.Entry.{Entry}
 use Rattle.dq_journal.specs.declared.result.StepResult.{StepResult}
 use Rattle.dq_report.specs.declared.writing.WriteFault.{WriteFault}
 use Rattle.dq_report.specs.declared.writing.WriteFault.TheVariants as write
-use Rattle.dq_top.specs.Outcomes.{any_refused, status_of, told_of_write, IsOfPlay, IsServed, Writes}
+use Rattle.dq_top.specs.Loading.{Loads, loaded_of}
+use Rattle.dq_top.specs.Outcomes.{any_invalid, any_refused, loaded_files, status_of, told_of_write, AreRight, IsOfPlay, IsServed, IsWhole, Writes}
 use Rattle.dq_top.specs.declared.fault.Fault.{Fault}
 use Rattle.dq_top.specs.declared.fault.Fault.TheVariants as fault
+use Rattle.dq_top.proofs.Refused.{refused_invalid}
 
 -- what a write leaves, by what is told of it
 writes_by : (before now : Option (List ℕ)) (report : List ℕ) (l : LoadedFiles) (wanting : Bool) (wrote : Result ⊤ WriteFault)
@@ -24,16 +32,38 @@ pub writes_told : (before now : Option (List ℕ)) (report : List ℕ) (l : Load
     → told ≡ told_of_write wanting wrote → OnOk wrote (now ≡ appended before report) → OnErr wrote (WritesPrefix before now report) → Writes before now report (Some l) told
 writes_told before now report l wanting wrote told tells whole some = rw tells (writes_by before now report l wanting wrote whole some)
 
-served_by : (b : Bool) (status : ℕ) → status ≡ (if b then 1 else 0) → IsServed status
-served_by true status is = inr (inl is)
-served_by false status is = inl is
+-- a file loads to one thing
+pub loaded_is : (held : Option Files) (files : Files) (named name : List ℕ) (l m : LoadedFiles)
+    → held ≡ Some files → Some named ≡ Some name → loaded_of files name ≡ Loads l → IfSome held (λ fs. loaded_of fs named ≡ Loads m) → m ≡ l
+loaded_is held files named name l m holds words loads is =
+    let Held : Option Files → Type 0 = λ h. IfSome h (λ fs. loaded_of fs named ≡ Loads m) in
+    let own : loaded_of files named ≡ Loads m = subst Held holds is in
+    let same : named ≡ name = cc in
+    let Named : List ℕ → Type 0 = λ n. loaded_of files n ≡ Loads m in
+    let both : Loads m ≡ Loads l = sym (subst Named same own) ∙ loads in
+    cc
+
+-- the status of results that are right
+served_by : (l m : LoadedFiles) (journal : List Entry) (results : List (List StepResult)) (status : ℕ)
+    → IsRight m journal results → m ≡ l → status ≡ status_of None results → IsServed (any_invalid l.script) status
+served_by l m journal results status right same is =
+    let refused : any_refused results ≡ any_invalid l.script = refused_invalid l journal results (subst (λ k. IsRight k journal results) same right) in
+    inl (rw (← refused) is)
+
+-- where something was loaded
+served_over : (l : LoadedFiles) (loaded : Option (Arc LoadedFiles Global)) (journal : List Entry) (results : List (List StepResult)) (status : ℕ)
+    → IsWhole None (loaded_files loaded) → IfSome loaded (λ owner. arc_value owner ≡ l) → AreRight (loaded_files loaded) journal results
+    → status ≡ status_of None results → IsServed (any_invalid l.script) status
+served_over l None journal results status whole own right is = absurd (cc)
+served_over l (Some owner) journal results status whole own right is = served_by l (arc_value owner) journal results status right own is
 
 -- a run is answered, but for want of memory
-pub all_answered : (told : Option Fault) (status : ℕ) (results : List (List StepResult)) (before now : ℕ)
-    → IsOfPlay told → status ≡ status_of told results → (told ≡ Some fault.Write → Rose before now) → ¬ Rose before now → IsServed status
-all_answered None status results before now of is cause calm = served_by (any_refused results) status is
-all_answered (Some fault.Usage) status results before now of is cause calm = absurd of
-all_answered (Some (fault.Read name)) status results before now of is cause calm = absurd of
-all_answered (Some (fault.Unbuilt name)) status results before now of is cause calm = absurd of
-all_answered (Some fault.Write) status results before now of is cause calm = absurd (calm (cause refl))
-all_answered (Some fault.Memory) status results before now of is cause calm = inr (inr is)
+pub all_answered : (l : LoadedFiles) (told : Option Fault) (loaded : Option (Arc LoadedFiles Global)) (journal : List Entry) (results : List (List StepResult)) (status before now : ℕ)
+    → IsOfPlay told → IsWhole told (loaded_files loaded) → IfSome loaded (λ owner. arc_value owner ≡ l) → AreRight (loaded_files loaded) journal results
+    → status ≡ status_of told results → (told ≡ Some fault.Write → Rose before now) → ¬ Rose before now → IsServed (any_invalid l.script) status
+all_answered l None loaded journal results status before now of whole own right is cause calm = served_over l loaded journal results status whole own right is
+all_answered l (Some fault.Usage) loaded journal results status before now of whole own right is cause calm = absurd of
+all_answered l (Some (fault.Read name)) loaded journal results status before now of whole own right is cause calm = absurd of
+all_answered l (Some (fault.Unbuilt name)) loaded journal results status before now of whole own right is cause calm = absurd of
+all_answered l (Some fault.Write) loaded journal results status before now of whole own right is cause calm = absurd (calm (cause refl))
+all_answered l (Some fault.Memory) loaded journal results status before now of whole own right is cause calm = inr is

@@ -1,9 +1,15 @@
 -- What the top call answers, by what it tells.
-use Rattle.std.specs.Prelude.{◌≡◌, ◌⊎◌, ⊤, ℕ, Bool, true, false, ◌||◌, List, [], ◌∷◌, ◌++◌, Option, Some, None, IfSome, codes, option_map, if◌then◌else◌, Result, Ok, Err}
+use Rattle.std.specs.Prelude.{◌≡◌, ◌⊎◌, ⊤, ℕ, Bool, true, false, List, [], ◌++◌, Option, Some, None, IfSome, codes, is_some, option_map, if◌then◌else◌, Result, Ok, Err}
 use Rattle.std.specs.Arc.{arc_value}
 use Rattle.std.specs.List.{list_any}
 use Rattle.std.specs.declared.alloc.Global.{Global}
 use Rattle.std.specs.declared.sync.Arc.{Arc}
+use Rattle.dq_base.specs.Headings.{Heading}
+use Rattle.dq_base.specs.Validity.{invalid_by}
+use Rattle.dq_base.specs.declared.query.Query.{Query}
+use Rattle.dq_base.specs.declared.script.Script.{Script}
+use Rattle.dq_base.specs.declared.script.Step.{Step}
+use Rattle.dq_base.specs.declared.script.Step.TheVariants as step
 use Rattle.dq_outside.specs.Causes.{Rose}
 use Rattle.dq_outside.specs.Reads.{Files}
 use Rattle.dq_outside.specs.Writes.{appended, WritesPrefix}
@@ -18,7 +24,7 @@ use Rattle.dq_journal.specs.declared.result.StepResult.{StepResult}
 use Rattle.dq_journal.specs.declared.result.StepResult.TheVariants.{Published, Unpublished, Admitted, Unadmitted}
 use Rattle.dq_report.specs.declared.writing.WriteFault.{WriteFault}
 use Rattle.dq_report.specs.declared.writing.WriteFault.TheVariants as write
-use Rattle.dq_top.specs.Loading.{Load, Loads, Missing, Unbuilt, loaded_of, names_read, IsAmong}
+use Rattle.dq_top.specs.Loading.{Load, Loads, Unbuilt, loaded_of, names_read, IsAmong}
 use Rattle.dq_top.specs.declared.fault.Fault.{Fault}
 use Rattle.dq_top.specs.declared.fault.Fault.TheVariants as fault
 
@@ -72,6 +78,19 @@ any_refused results = list_any (λ steps. list_any step_refused steps) results
 abbrev pub any_wanting : List (List StepResult) → Bool
 any_wanting results = list_any (λ steps. list_any step_wanting steps) results
 
+-- what isn't valid
+
+abbrev pub is_invalid : List Heading → Query → Bool
+is_invalid schemas q = is_some (invalid_by schemas q)
+
+abbrev pub step_invalid : List Heading → Step → Bool
+step_invalid schemas (step.Publish source how file) = false
+step_invalid schemas (step.Batch zones) = list_any (is_invalid schemas) zones
+
+-- some zone of the script isn't valid
+abbrev pub any_invalid : Script → Bool
+any_invalid script = list_any (λ steps. list_any (step_invalid script.schemas) steps) script.lanes
+
 -- statuses
 
 -- 0, or 1 where some zone was refused; else that of what is told
@@ -79,9 +98,9 @@ abbrev pub status_of : Option Fault → List (List StepResult) → ℕ
 status_of None results = if any_refused results then 1 else 0
 status_of (Some f) results = fault_status f
 
--- all is answered, some zones are refused for their queries, or memory was wanting
-abbrev pub IsServed : ℕ → Type 0
-IsServed status = (status ≡ 0) ⊎ (status ≡ 1) ⊎ (status ≡ 6)
+-- all is answered, 1 where some zone isn't valid and else 0, or memory was wanting
+abbrev pub IsServed : Bool → ℕ → Type 0
+IsServed invalid status = (status ≡ (if invalid then 1 else 0)) ⊎ (status ≡ 6)
 
 -- wholeness
 

@@ -1,5 +1,5 @@
 -- The run of one lane that publishes a source and then asks one batch.
-use Rattle.std.specs.Prelude.{◌≡◌, ℕ, nat_eq, List, [], ◌∷◌, Bool, true, false, if◌then◌else◌}
+use Rattle.std.specs.Prelude.{◌≡◌, ℕ, nat_eq, List, [], ◌∷◌, if◌then◌else◌}
 use Rattle.dq_base.specs.declared.query.Query.{Query}
 use Rattle.dq_base.specs.declared.script.How.TheVariants.{Replace}
 use Rattle.dq_base.specs.declared.script.Script.{Script}

@@ -6,7 +6,7 @@ ghost use Rattle.dq_outside.specs.Reads.{Files};
 ghost use Rattle.dq_report.specs.Report.{report_text};
 ghost use Rattle.dq_top.specs.SingleRun.{IsSingle};
 ghost use Rattle.dq_top.specs.Loading.{Loads, loaded_of};
-ghost use Rattle.dq_top.specs.Outcomes.{AnswersFiles, AreRight, IsOfPlay, IsServed, IsWhole, ReadCause, Writes, any_wanting, loaded_files, status_of};
+ghost use Rattle.dq_top.specs.Outcomes.{AnswersFiles, AreRight, IsOfPlay, IsServed, IsWhole, ReadCause, Writes, any_invalid, any_wanting, loaded_files, status_of};
 ghost use Rattle.dq_top.specs.Words.{script_name};
 
 use crate::fault::Fault;
@@ -81,11 +81,11 @@ pub fn rehearse<F: Folder, S: Sink>(
     ensures read { ReadCause (F.faults folder.old) (F.faults folder.new) (F.last_fault folder.new) result.told }
     ensures write { result.told ≡ Some Fault.Write → Rose (S.faults sink.old) (S.faults sink.new) }
 
-    // Where the files load and no count rises, all is answered, but for want of memory.
+    // Where the files load and no count rises, all is answered but for want of memory: 1 exactly where some zone isn't valid.
     ensures complete { (name : ListOf ℕ) (files : Files) (l : LoadedFiles)
         → script_name words.now ≡ Some name → F.files folder.old ≡ Some files → loaded_of files name ≡ Loads l
         → ¬ Rose (F.faults folder.old) (F.faults folder.new) → ¬ Rose (S.faults sink.old) (S.faults sink.new)
-        → IsServed result.status }
+        → IsServed (any_invalid l.script) result.status }
 {
     let Some(name) = find_script(words.as_slice()) else {
         return refused(alloc, Fault::Usage);

@@ -5,13 +5,13 @@ use dq_outside::{Folder, MemFolder, MemSink, NamedFile, NamedFiles, SureFolder, 
 use std::alloc::Global;
 use std::process::Abort;
 
-const SCRIPT: &[u8] =
-    b"{\"form\":1,\"extracts\":[{\"name\":\"sales\",\"columns\":[[\"region\",\"text\"],[\"year\",\"whole\"],[\"amount\",\"whole\"]]}],\"lanes\":[[{\"publish\":\"sales\",\"how\":\"replace\",\"file\":\"sales.csv\"},{\"batch\":[{\"source\":\"sales\",\"by\":[\"region\"],\"show\":[[\"sum\",\"amount\"],[\"rows\"]]}]}]]}\n";
+const SCRIPT: &str =
+    r#"{"form":1,"extracts":[{"name":"sales","columns":[["region","text"],["year","whole"],["amount","whole"]]}],"lanes":[[{"publish":"sales","how":"replace","file":"sales.csv"},{"batch":[{"source":"sales","by":["region"],"show":[["sum","amount"],["rows"]]}]}]]}"#;
 
-const SCHEDULED: &[u8] =
-    b"{\"form\":1,\"extracts\":[{\"name\":\"sales\",\"columns\":[[\"region\",\"text\"],[\"year\",\"whole\"],[\"amount\",\"whole\"]]}],\"lanes\":[[{\"publish\":\"sales\",\"how\":\"replace\",\"file\":\"sales.csv\"},{\"batch\":[{\"source\":\"sales\",\"by\":[\"region\"],\"show\":[[\"sum\",\"amount\"],[\"rows\"]]}]}]],\"schedule\":[1]}\n";
+// The script's zones.
+const ZONES: &str = r#"{"source":"sales","by":["region"],"show":[["sum","amount"],["rows"]]}"#;
 
-const SALES: &[u8] = b"region,year,amount
+const SALES: &str = "region,year,amount
 East,2020,10
 East,2021,5
 West,2020,7
@@ -19,15 +19,24 @@ West,2021,
 ,2021,4
 ";
 
-const SHORT_ROW: &[u8] = b"region,year,amount
+const MARKED_SALES: &str = "\u{feff}region,year,amount
 East,2020,10
 East,2021,5
-East,2020
+West,2020,7
 West,2021,
 ,2021,4
 ";
 
-const REPORT: &[u8] = b"report 1
+const NO_SALES: &str = "region,year,amount
+";
+
+const LARGE_SALES: &str = "region,year,amount
+East,2020,9223372036854775807
+East,2021,9223372036854775807
+";
+
+// The report of a run, up to the number of its zones.
+const BEGUN: &str = "report 1
 lanes 1
 entries 3
 1 publish lane 1 step 1
@@ -35,12 +44,200 @@ entries 3
 3 end lane 1
 lane 1 steps 2
 step 1 published 1
-step 2 admitted 2 zones 1
+step 2 admitted 2 zones ";
+
+// What the report says of the script's zones over the sales.
+const ANSWERED: &str = r#"1
 zone 1 rows 3
 null 4 1
-\"East\" 15 2
-\"West\" 7 2
-";
+"East" 15 2
+"West" 7 2
+"#;
+
+// The zones, the file, the status, and the report from the number of zones on.
+const RUNS: [(&str, &str, u8, &str); 12] = [
+    (ZONES, SALES, 0, ANSWERED),
+    (ZONES, MARKED_SALES, 0, ANSWERED),
+    (ZONES, NO_SALES, 0, "1\nzone 1 rows 0\n"),
+    ("", SALES, 0, "0\n"),
+    (
+        r#"{"source":"sales","by":["region"],"show":[["rows"]]},{"source":"sales","by":["colour"],"show":[["rows"]]},{"source":"sales","show":[["rows"]]}"#,
+        SALES,
+        1,
+        r#"3
+zone 1 rows 3
+null 1
+"East" 2
+"West" 2
+zone 2 invalid column
+zone 3 rows 1
+5
+"#,
+    ),
+    (
+        r#"{"source":"sales","show":[["rows"],["sum","amount"]]}"#,
+        NO_SALES,
+        0,
+        r#"1
+zone 1 rows 1
+0 null
+"#,
+    ),
+    (
+        r#"{"source":"sales","by":["region"],"show":[["countd","year"]]},{"source":"sales","by":["region","year"],"show":[["rows"]]},{"source":"sales","by":["region"],"show":[["countd","amount"]]},{"source":"sales","show":[["countd","year"],["countd","region"]]}"#,
+        SALES,
+        0,
+        r#"4
+zone 1 rows 3
+null 1
+"East" 2
+"West" 2
+zone 2 rows 5
+null 2021 1
+"East" 2020 1
+"East" 2021 1
+"West" 2020 1
+"West" 2021 1
+zone 3 rows 3
+null 1
+"East" 2
+"West" 1
+zone 4 rows 1
+2 2
+"#,
+    ),
+    (
+        r#"{"source":"sales","by":["region","year"],"show":[["avg","amount"]]},{"source":"sales","show":[["avg","amount"]]},{"source":"sales","by":["region"],"show":[["max","amount"]]}"#,
+        SALES,
+        0,
+        r#"3
+zone 1 rows 5
+null 2021 4/1
+"East" 2020 10/1
+"East" 2021 5/1
+"West" 2020 7/1
+"West" 2021 null
+zone 2 rows 1
+26/4
+zone 3 rows 3
+null 4
+"East" 10
+"West" 7
+"#,
+    ),
+    (
+        r#"{"source":"sales","by":["region"],"show":[["rows"]],"order":[[2,"down"]],"top":1},{"source":"sales","by":["region"],"show":[["max","year"]],"order":[[2,"down"]],"top":1}"#,
+        SALES,
+        0,
+        r#"2
+zone 1 rows 1
+"East" 2
+zone 2 rows 1
+null 2021
+"#,
+    ),
+    (
+        r#"{"source":"sales","show":[["sum","amount"],["avg","amount"]]}"#,
+        LARGE_SALES,
+        0,
+        r#"1
+zone 1 rows 1
+18446744073709551614 18446744073709551614/2
+"#,
+    ),
+    (
+        r#"{"source":"costs","show":[["rows"]]},{"source":"sales","by":["colour"]},{"source":"sales","by":["region","region"]},{"source":"sales","show":[["sum","region"]]},{"source":"sales","filters":[{"column":"year","among":["x"]}],"show":[["rows"]]},{"source":"sales"},{"source":"sales","by":["region"],"show":[["rows"]],"order":[[3,"up"]]}"#,
+        SALES,
+        1,
+        r#"7
+zone 1 invalid source
+zone 2 invalid column
+zone 3 invalid repeated
+zone 4 invalid sort
+zone 5 invalid sort
+zone 6 invalid shown
+zone 7 invalid order
+"#,
+    ),
+    (
+        r#"{"source":"sales","filters":[{"column":"year","between":[2021,2020]},{"column":"region","among":["West","East","West"]}],"show":[["rows"]]},{"source":"sales","filters":[{"column":"region","among":["West","East","West"]}],"by":["region"],"show":[["rows"]]}"#,
+        SALES,
+        0,
+        r#"2
+zone 1 rows 1
+0
+zone 2 rows 2
+"East" 2
+"West" 2
+"#,
+    ),
+];
+
+// What stands in the script, what stands in its place, and whether that is built; it is then answered as the script.
+const CHANGES: [(&str, &str, bool); 25] = [
+    ("]}]]}", r#"]}]],"schedule":[]}"#, true),
+    ("]}]]}", r#"]}]],"schedule":[1]}"#, false),
+    ("]}]]}", r#"]}]],"literal":1,"clever":4096}"#, true),
+    ("]}]]}", r#"]}]],"literal":4097}"#, false),
+    ("]}]]}", r#"]}]],"faults":[{"lane":1,"dials":[]}]}"#, true),
+    ("]}]]}", r#"]}]],"faults":[{"lane":1,"dials":[1]}]}"#, false),
+    ("]}]]}", r#"]}]],"faults":[{"lane":1,"links":[0]}]}"#, false),
+    ("]}]]}", r#"]}]],"faults":[{"lane":2}]}"#, false),
+    ("]}]]}", r#"]}]],"rows":[]}"#, false),
+    ("]}]]}", "]}", false),
+    ("]}]]}", "]}],[]]}", false),
+    ("]}]]}", r#"]},{"batch":[]}]]}"#, false),
+    ("[[{", r#"[[{"batch":[]},{"#, false),
+    ("[[{", "[[],[{", false),
+    (r#""form":1"#, r#""form":2"#, false),
+    (
+        r#""extracts":["#,
+        r#""extracts":[{"name":"costs","columns":[["cost","whole"]]},"#,
+        true,
+    ),
+    (r#""publish":"sales""#, r#""publish":"costs""#, false),
+    (r#""replace""#, r#""append""#, false),
+    (
+        r#"{"publish":"sales","how":"replace","file":"sales.csv"}"#,
+        r#"{"batch":[]}"#,
+        false,
+    ),
+    (
+        r#"{"publish":"sales","how":"replace","file":"sales.csv"},"#,
+        "",
+        false,
+    ),
+    (r#"[["sum","amount"],["rows"]]"#, "[[]]", false),
+    (r#""by":["region"]"#, r#""by":"region""#, false),
+    (r#""by""#, r#""order":[],"filters":[],"by""#, true),
+    (r#""by""#, r#""top":3,"by""#, true),
+    (r#""by""#, r#""top":-1,"by""#, false),
+];
+
+// Files that aren't built.
+const WRONG_FILES: [&str; 6] = [
+    "",
+    "region,year\nEast,2020\n",
+    "region,amount,year\nEast,2020,10\n",
+    "region,year,amount\nEast,2020,10\nEast,2021,5\nEast,2020\nWest,2021,\n,2021,4\n",
+    "region,year,amount\nEast,2020,10\nEast,2021,12x\n",
+    "region,year,amount\nEast,9223372036854775808,1\n",
+];
+
+// A zone, a filter that keeps all, and what the report says of zone 64.
+const ZONE: &str = r#"{"source":"sales","show":[["rows"]]},"#;
+
+const FILTERED: &str = r#""filters":["#;
+
+const FILTER: &str = r#"{"column":"year","except":[]},"#;
+
+const LAST_FILTER: &str = r#"{"column":"year","except":[]}],"by""#;
+
+const LAST_ANSWER: &str = r#"zone 64 rows 3
+null 4 1
+"East" 15 2
+"West" 7 2
+"#;
 
 fn text(rt: &impl Abort, alloc: Global, bytes: &[u8]) -> Text {
     Text::copy_of(alloc, bytes).ok().expect(rt, "memory")
@@ -67,11 +264,48 @@ fn add(rt: &impl Abort, alloc: Global, files: &mut NamedFiles, name: &[u8], byte
 }
 
 /// A script `row.json` and a file `sales.csv`.
-fn both(rt: &impl Abort, alloc: Global, script: &[u8], sales: &[u8]) -> NamedFiles {
+fn both(rt: &impl Abort, alloc: Global, script: &str, sales: &str) -> NamedFiles {
     let mut files = NamedFiles::new(alloc);
-    add(rt, alloc, &mut files, b"row.json", script);
-    add(rt, alloc, &mut files, b"sales.csv", sales);
+    add(rt, alloc, &mut files, b"row.json", script.as_bytes());
+    add(rt, alloc, &mut files, b"sales.csv", sales.as_bytes());
     files
+}
+
+/// The script with this in place of that.
+fn changed(rt: &impl Abort, alloc: Global, old: &str, new: &str) -> String {
+    SCRIPT.replace(alloc, old, new).ok().expect(rt, "memory")
+}
+
+/// So many copies of a text, each with its number for the mark.
+fn copies(rt: &impl Abort, alloc: Global, text: &str, count: u32) -> String {
+    let mut all = String::new(alloc);
+    for place in 0..count {
+        let number = format!(in alloc; "{}", place + 1).ok().expect(rt, "memory");
+        let copy = text
+            .replace(alloc, "#", number.as_str())
+            .ok()
+            .expect(rt, "memory");
+        assert!(rt; all.push_str(copy.as_str()).is_ok());
+    }
+    all
+}
+
+/// The script with so many copies of a zone before its zones.
+fn with_zones(rt: &impl Abort, alloc: Global, count: u32) -> String {
+    let zones = copies(rt, alloc, ZONE, count);
+    let more = format!(in alloc; "{}{ZONES}", zones.as_str())
+        .ok()
+        .expect(rt, "memory");
+    changed(rt, alloc, ZONES, more.as_str())
+}
+
+/// The script with so many filters before a last one.
+fn with_filters(rt: &impl Abort, alloc: Global, count: u32) -> String {
+    let filters = copies(rt, alloc, FILTER, count);
+    let more = format!(in alloc; "{FILTERED}{}{LAST_FILTER}", filters.as_str())
+        .ok()
+        .expect(rt, "memory");
+    changed(rt, alloc, "\"by\"", more.as_str())
 }
 
 /// A fault is told by this line.
@@ -88,6 +322,27 @@ fn check_refused(rt: &impl Abort, alloc: Global, outcome: &Outcome, status: u8, 
     assert!(rt; outcome.loaded.is_none(), "{line}");
     assert_eq!(rt; outcome.journal.len(), 0, "{line}");
     assert_eq!(rt; outcome.results.len(), 0, "{line}");
+}
+
+/// The report is written, from the number of zones on with this text, and with this status.
+fn check_report(rt: &impl Abort, alloc: Global, script: &str, sales: &str, status: u8, rest: &str) {
+    let mut folder = SureFolder::new(both(rt, alloc, script, sales));
+    let mut sink = SureSink::new(alloc);
+    let given = words(rt, alloc, &["rehearse", "row.json"]);
+    let outcome = rehearse(alloc, &given, &mut folder, &mut sink);
+    let report = format!(in alloc; "{BEGUN}{rest}").ok().expect(rt, "memory");
+    assert_eq!(rt; sink.bytes(), report.as_bytes(), "{script}");
+    assert_eq!(rt; outcome.status, status, "{script}");
+    assert!(rt; outcome.told.is_none(), "{script}");
+    assert!(rt; outcome.loaded.is_some(), "{script}");
+    assert_eq!(rt; outcome.journal.len(), 3, "{script}");
+    assert_eq!(rt; outcome.results.len(), 1, "{script}");
+}
+
+/// The script isn't built.
+fn check_unbuilt(rt: &impl Abort, alloc: Global, script: &str) {
+    let mut folder = SureFolder::new(both(rt, alloc, script, SALES));
+    check_files(rt, alloc, &mut folder, 8, "dashboards: row.json: not built");
 }
 
 /// These words are refused, and nothing is written.
@@ -120,13 +375,49 @@ fn check_unwritten(rt: &impl Abort, alloc: Global, sink: &mut MemSink, want: &[u
 }
 
 #[test]
+fn runs_are_reported(rt: HostRuntime) {
+    let alloc = rt.alloc();
+    for (zones, sales, status, rest) in RUNS {
+        let script = changed(&rt, alloc, ZONES, zones);
+        check_report(&rt, alloc, script.as_str(), sales, status, rest);
+    }
+}
+
+#[test]
+fn zones_and_filters_are_counted(rt: HostRuntime) {
+    let alloc = rt.alloc();
+    let answers = copies(&rt, alloc, "zone # rows 1\n5\n", 63);
+    let rest = format!(in alloc; "64\n{}{LAST_ANSWER}", answers.as_str())
+        .ok()
+        .expect(&rt, "memory");
+    let most = with_zones(&rt, alloc, 63);
+    check_report(&rt, alloc, most.as_str(), SALES, 0, rest.as_str());
+    let more = with_zones(&rt, alloc, 64);
+    check_unbuilt(&rt, alloc, more.as_str());
+    let long = with_filters(&rt, alloc, 15);
+    check_report(&rt, alloc, long.as_str(), SALES, 0, ANSWERED);
+    let longer = with_filters(&rt, alloc, 16);
+    check_report(
+        &rt,
+        alloc,
+        longer.as_str(),
+        SALES,
+        1,
+        "1\nzone 1 invalid long\n",
+    );
+}
+
+#[test]
 fn report_is_written(rt: HostRuntime) {
     let alloc = rt.alloc();
     let mut folder = MemFolder::new(both(&rt, alloc, SCRIPT, SALES), Numbers64::new(alloc));
     let mut sink = MemSink::new(alloc, Numbers64::new(alloc));
     let given = words(&rt, alloc, &["rehearse", "row.json"]);
     let outcome = rehearse(alloc, &given, &mut folder, &mut sink);
-    assert_eq!(rt; sink.bytes(), REPORT);
+    let report = format!(in alloc; "{BEGUN}{ANSWERED}")
+        .ok()
+        .expect(&rt, "memory");
+    assert_eq!(rt; sink.bytes(), report.as_bytes());
     assert_eq!(rt; outcome.status, 0);
     assert!(rt; outcome.told.is_none());
     assert!(rt; outcome.loaded.is_some());
@@ -154,7 +445,7 @@ fn files_are_unread(rt: HostRuntime) {
     let mut failing = MemFolder::new(both(&rt, alloc, SCRIPT, SALES), fails);
     check_files(&rt, alloc, &mut failing, 3, unread);
     let mut script = NamedFiles::new(alloc);
-    add(&rt, alloc, &mut script, b"row.json", SCRIPT);
+    add(&rt, alloc, &mut script, b"row.json", SCRIPT.as_bytes());
     let mut alone = MemFolder::new(script, Numbers64::new(alloc));
     check_files(
         &rt,
@@ -168,22 +459,25 @@ fn files_are_unread(rt: HostRuntime) {
 #[test]
 fn files_are_unbuilt(rt: HostRuntime) {
     let alloc = rt.alloc();
-    let mut scheduled = SureFolder::new(both(&rt, alloc, SCHEDULED, SALES));
-    check_files(
-        &rt,
-        alloc,
-        &mut scheduled,
-        8,
-        "dashboards: row.json: not built",
-    );
-    let mut short = SureFolder::new(both(&rt, alloc, SCRIPT, SHORT_ROW));
-    check_files(
-        &rt,
-        alloc,
-        &mut short,
-        8,
-        "dashboards: sales.csv: not built",
-    );
+    for (old, new, built) in CHANGES {
+        let script = changed(&rt, alloc, old, new);
+        if built {
+            check_report(&rt, alloc, script.as_str(), SALES, 0, ANSWERED);
+        } else {
+            check_unbuilt(&rt, alloc, script.as_str());
+        }
+    }
+    check_unbuilt(&rt, alloc, &SCRIPT[..100]);
+    for sales in WRONG_FILES {
+        let mut folder = SureFolder::new(both(&rt, alloc, SCRIPT, sales));
+        check_files(
+            &rt,
+            alloc,
+            &mut folder,
+            8,
+            "dashboards: sales.csv: not built",
+        );
+    }
 }
 
 #[test]
