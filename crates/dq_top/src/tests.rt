@@ -438,22 +438,19 @@ fn words_are_refused(rt: HostRuntime) {
 #[test]
 fn files_are_unread(rt: HostRuntime) {
     let alloc = rt.alloc();
-    let unread = "dashboards: cannot read row.json";
+    let script_unread = "dashboards: cannot read row.json";
+    let sales_unread = "dashboards: cannot read sales.csv";
     let mut empty = MemFolder::new(NamedFiles::new(alloc), Numbers64::new(alloc));
-    check_files(&rt, alloc, &mut empty, 3, unread);
-    let fails = numbers(&rt, alloc, &[1]);
-    let mut failing = MemFolder::new(both(&rt, alloc, SCRIPT, SALES), fails);
-    check_files(&rt, alloc, &mut failing, 3, unread);
+    check_files(&rt, alloc, &mut empty, 3, script_unread);
+    for (call, unread) in [(1, script_unread), (2, sales_unread)] {
+        let fails = numbers(&rt, alloc, &[call]);
+        let mut failing = MemFolder::new(both(&rt, alloc, SCRIPT, SALES), fails);
+        check_files(&rt, alloc, &mut failing, 3, unread);
+    }
     let mut script = NamedFiles::new(alloc);
     add(&rt, alloc, &mut script, b"row.json", SCRIPT.as_bytes());
     let mut alone = MemFolder::new(script, Numbers64::new(alloc));
-    check_files(
-        &rt,
-        alloc,
-        &mut alone,
-        3,
-        "dashboards: cannot read sales.csv",
-    );
+    check_files(&rt, alloc, &mut alone, 3, sales_unread);
 }
 
 #[test]
