@@ -12,7 +12,7 @@ ghost use Rattle.dq_fold.specs.Tallies.{Mergeable, added, count_in, merged_all, 
 ghost use Rattle.dq_fold.specs.declared.slots.Slot.{Slot as SlotOf};
 ghost use Rattle.dq_fold.specs.declared.tally.Tally.{Tally as TallyOf};
 
-use crate::slots::{Hints, Places, Slot, Tallies, place_of, widen};
+use crate::slots::{Hints, Places, Slot, Tallies, hint, place_of, widen};
 use crate::tally::{Tally, cell_from};
 use dq_base::{Cells, Duplicate, List, Measure, Memory, Text, Value, Values};
 use std::alloc::Global;
@@ -60,6 +60,7 @@ impl Groups {
     {
         let place = self.slots.len();
         widen(alloc, &mut self.hints, place)?;
+        hint(&mut self.hints, &key, place);
         let copy = key.duplicate(alloc)?;
         self.slots.push(Slot { key: copy, tallies })?;
         if self.places.insert(key, place).is_err() {

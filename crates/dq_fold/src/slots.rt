@@ -10,6 +10,7 @@ use dq_base::{List, Memory, Value, Values, compare_keys};
 use std::alloc::Global;
 use std::collections::BTreeMap;
 use std::hash::{FoldHasher, Hasher};
+use std::mem::replace;
 
 /// The tallies of a group, one for each measure.
 pub type Tallies = List<Tally>;
@@ -24,8 +25,15 @@ pub struct Slot {
 /// The place of each key's slot.
 pub type Places = BTreeMap<Values, u64>;
 
-/// For the last bits of a digest, the place of a slot whose key may have it. Nothing rests on a hint but speed.
+/// Hints at the places of slots, in rows of eight. A hint has the first half of a key's digest and a place. Nothing rests on
+/// hints but speed.
 pub type Hints = List<u64>;
+
+/// How many hints stand in a row.
+const WAYS: u64 = 8;
+
+/// The bits of a hint that are its place.
+const PLACE: u64 = 0xFFFF_FFFF;
 
 /// Feeds a value to a digest.
 fn feed(digest: &mut FoldHasher, v: &Value) {
@@ -45,9 +53,9 @@ fn digest_of(key: &Values) -> u64 {
     digest.finish()
 }
 
-/// Where a key's hint stands: at the last bits of its digest, as many as there are for so many hints.
-fn hint_place(key: &Values, count: u64) -> u64 {
-    digest_of(key) & count.saturating_sub(1)
+/// Where the row of a digest's hints begins, among so many.
+fn row_of(digest: u64, count: u64) -> u64 {
+    digest & count.saturating_sub(WAYS)
 }
 
 /// Whether the slot at a place is there and has that key.
@@ -60,23 +68,47 @@ fn has_key(slots: &[Slot], place: u64, key: &Values) -> bool
     }
 }
 
-/// The place that is hinted at, if its slot has that key.
-fn hinted(slots: &[Slot], hints: &[u64], at: u64, key: &Values) -> Option<u64>
+/// The place of a hint, if the hint is at that digest and its slot has that key.
+fn place_in(slots: &[Slot], hint: u64, digest: u64, key: &Values) -> Option<u64>
     ensures { IfSome result (λ place. slice_get (slot_keys slots.now) place ≡ Some key.now) }
 {
-    let place = *hints.get(at as usize)?;
-    if has_key(slots, place, key) {
+    let place = hint & PLACE;
+    if (hint ^ digest) <= PLACE && has_key(slots, place, key) {
         Some(place)
     } else {
         None
     }
 }
 
-/// Hints at a place.
-fn hint(hints: &mut Hints, at: u64, place: u64) {
-    if at < hints.len() {
-        *hints.item_mut(at as usize) = place;
+/// The place that a row's hints have for a key.
+fn hinted(slots: &[Slot], hints: &Hints, digest: u64, key: &Values) -> Option<u64>
+    ensures { IfSome result (λ place. slice_get (slot_keys slots.now) place ≡ Some key.now) }
+{
+    let row = row_of(digest, hints.len());
+    for way in 0..WAYS {
+        let hint = *hints.get(row | way)?;
+        if let Some(place) = place_in(slots, hint, digest, key) {
+            return Some(place);
+        }
     }
+    None
+}
+
+/// Puts a hint before the others of its row, whose last one falls out.
+fn put_hint(hints: &mut Hints, digest: u64, place: u64) {
+    let row = row_of(digest, hints.len());
+    let mut moved = (digest & !PLACE) | (place & PLACE);
+    for way in 0..WAYS {
+        let at = row | way;
+        if at < hints.len() {
+            moved = replace(hints.item_mut(at as usize), moved);
+        }
+    }
+}
+
+/// Hints at the place of a key's slot.
+pub fn hint(hints: &mut Hints, key: &Values, place: u64) {
+    put_hint(hints, digest_of(key), place);
 }
 
 /// The place of a key's slot, if it has one. Where the hint is right, that is one comparison; else it costs a look-up in the
@@ -87,12 +119,12 @@ pub fn place_of(places: &Places, slots: &[Slot], hints: &mut Hints, key: &Values
     ensures ordered { IsStrictlySortedBy key_cmp (keys_of places.now.entries) }
 {
     let _ordered = places.len();
-    let at = hint_place(key, hints.len());
-    if let Some(place) = hinted(slots, hints.as_slice(), at, key) {
+    let digest = digest_of(key);
+    if let Some(place) = hinted(slots, hints, digest, key) {
         return Some(place);
     }
     let place = *places.get(key)?;
-    hint(hints, at, place);
+    put_hint(hints, digest, place);
     Some(place)
 }
 
@@ -101,8 +133,8 @@ fn blank(alloc: Global, count: u64) -> Result<Hints, Memory> {
     Ok(List::from_vec(vec![in alloc; 0; count as usize]?))
 }
 
-/// Makes room for the hints of so many slots and one more: twice as many at least, and always a power of two. Wider hints
-/// start blank.
+/// Makes room for the hints of so many slots and one more: at least twice as many, and a power of two. Wider hints start
+/// blank.
 pub fn widen(alloc: Global, hints: &mut Hints, count: u64) -> Result<(), Memory> {
     let wide = hints.len();
     if wide / 2 <= count {
