@@ -8,8 +8,8 @@ pub mod Parts
 pub mod Readings
 pub mod Reasons
 pub mod Scripts
-pub mod Single
 pub mod Small
 pub mod Steps
 pub mod Tests
+pub mod Wanted
 pub mod Zones

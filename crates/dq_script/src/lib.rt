@@ -7,7 +7,7 @@
 //!
 //! The layer above may rely on this: `read` answers a script exactly where the bytes mean one, and then that one. It is
 //! within the limits, and its numbers of extracts and lanes are in range; that its zones are valid queries isn't said.
-//! `is_single` tells scripts of one lane that publishes once and asks once.
+//! `wants_no_fault` tells scripts in which nothing is wanted to fail.
 //!
 //! ```text
 //! let script = dq_script::read(alloc, bytes)?;
@@ -30,13 +30,13 @@ mod names;
 mod objects;
 mod parts;
 mod reading;
-mod single;
 mod small;
 mod step;
 #[cfg(test)]
 mod tests;
+mod wanted;
 mod zone;
 
 pub use fault::ScriptFault;
 pub use reading::read;
-pub use single::is_single;
+pub use wanted::wants_no_fault;

@@ -431,7 +431,7 @@ fn reads_whole_scripts(rt: HostRuntime) -> Result<(), Fail> {
     assert!(rt; has_turns(&script));
     assert!(rt; fails(&script, 0, &[], &[]));
     assert!(rt; fails(&script, 1, &[1], &[0, 3]));
-    assert!(rt; !is_single(&script));
+    assert!(rt; !wants_no_fault(&script));
     Ok(())
 }
 
@@ -445,12 +445,19 @@ fn numbers_unknown_columns(rt: HostRuntime) -> Result<(), Fail> {
 }
 
 #[test]
-fn knows_single_scripts(rt: HostRuntime) -> Result<(), Fail> {
+fn knows_wanted_faults(rt: HostRuntime) -> Result<(), Fail> {
     let alloc = rt.alloc();
     let script = read(alloc, SCRIPT.as_bytes())?;
-    assert!(rt; is_single(&script));
+    assert!(rt; wants_no_fault(&script));
     assert!(rt; script.literal == 64 && script.clever == 64);
-    let append = SCRIPT.replace(alloc, "\"replace\"", "\"append\"")?;
-    assert!(rt; !is_single(&read(alloc, append.as_bytes())?));
+    for (fault, none) in [
+        ("", true),
+        (",\"dials\":[1]", false),
+        (",\"links\":[0]", false),
+    ] {
+        let faults = format!(in alloc; "\"faults\":[{{\"lane\":1{fault}}}],\"form\"")?;
+        let wanting = SCRIPT.replace(alloc, "\"form\"", faults.as_str())?;
+        assert_eq!(rt; wants_no_fault(&read(alloc, wanting.as_bytes())?), none);
+    }
     Ok(())
 }

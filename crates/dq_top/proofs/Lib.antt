@@ -1,7 +1,6 @@
+pub mod Behind
 pub mod Columns
 pub mod Fine
-pub mod Outcomes
-pub mod Refreshes
+pub mod Reached
 pub mod Refused
 pub mod Scripts
-pub mod Single

@@ -6,7 +6,7 @@ use Rattle.dq_script.specs.Reasons.{ScriptReason}
 use Rattle.dq_script.specs.Scripts.{AnswersScript}
 use Rattle.dq_script.specs.declared.fault.ScriptFault.{ScriptFault}
 use Rattle.dq_script.specs.declared.fault.ScriptFault.TheVariants as read
-use Rattle.dq_script.specs.Single.{is_single}
+use Rattle.dq_script.specs.Wanted.{wants_no_fault}
 use Rattle.dq_top.specs.Loading.{Unbuilt, built_script}
 use Rattle.dq_top.specs.Outcomes.{AnswersLoad, NamesUnbuilt}
 use Rattle.dq_top.specs.declared.fault.Fault.{Fault}
@@ -24,8 +24,8 @@ unbuilt_told name want (fault.Unbuilt n) wrong names = rw names (unbuilt_script 
 unbuilt_told name want fault.Write wrong names = names
 unbuilt_told name want fault.Memory wrong names = names
 
--- a script of another kind isn't built
-pub other_told : (name : List ℕ) (want : Result Script ScriptReason) (script : Script) (f : Fault) → want ≡ Ok script → is_single script ≡ false
+-- a script in which something is wanted to fail isn't built
+pub other_told : (name : List ℕ) (want : Result Script ScriptReason) (script : Script) (f : Fault) → want ≡ Ok script → wants_no_fault script ≡ false
     → NamesUnbuilt name f → AnswersLoad (built_script name want) (λ n. n ≡ name) (Err f)
 other_told name want script fault.Usage is other names = names
 other_told name want script (fault.Read n) is other names = absurd names

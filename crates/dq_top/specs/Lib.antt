@@ -1,4 +1,4 @@
-pub mod SingleRun
 pub mod Loading
 pub mod Outcomes
+pub mod Progress
 pub mod Words

@@ -13,7 +13,7 @@ use Rattle.dq_extract.specs.Loads.{LoadedFiles}
 use Rattle.dq_extract.specs.Rows.{RowFault, rows_of}
 use Rattle.dq_script.specs.Reasons.{ScriptReason}
 use Rattle.dq_script.specs.Scripts.{script_of}
-use Rattle.dq_script.specs.Single.{is_single}
+use Rattle.dq_script.specs.Wanted.{wants_no_fault}
 
 -- what is loaded, or the first name that isn't held, or the first file that isn't built
 pub data Load (A : Type 0) : Type 0 where
@@ -28,13 +28,13 @@ then_load (Unbuilt name) more = Unbuilt name
 
 -- the script
 
--- a script of one lane that publishes once and then asks once
-abbrev pub single_script : List ℕ → Script → Load Script
-single_script name script = if is_single script then Loads script else Unbuilt name
+-- a script in which nothing is wanted to fail
+abbrev pub faultless_script : List ℕ → Script → Load Script
+faultless_script name script = if wants_no_fault script then Loads script else Unbuilt name
 
 abbrev pub built_script : List ℕ → Result Script ScriptReason → Load Script
 built_script name (Err reason) = Unbuilt name
-built_script name (Ok script) = single_script name script
+built_script name (Ok script) = faultless_script name script
 
 abbrev pub script_in : List ℕ → Option (List ℕ) → Load Script
 script_in name None = Missing name
@@ -58,13 +58,6 @@ publication_in schemas (Batch zones) = []
 -- what the publish steps read, in order of lanes and steps
 abbrev pub publications : Script → List Publication
 publications script = flat_map (λ steps. flat_map (publication_in script.schemas) steps) script.lanes
-
--- the file that the first step of the first lane publishes
-abbrev pub first_file_of : List (List Step) → List ℕ
-first_file_of [] = []
-first_file_of ([] ∷ lanes) = []
-first_file_of ((Publish source how file ∷ steps) ∷ lanes) = file
-first_file_of ((Batch zones ∷ steps) ∷ lanes) = []
 
 abbrev pub version_of : Publication → Result (List (List Value)) RowFault → Load Version
 version_of p (Ok rows) = Loads (record { heading = p.heading; rows = rows })

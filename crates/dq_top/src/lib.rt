@@ -1,10 +1,10 @@
 //! The top call: it loads the script that the words name and the script's files, plays it, and writes the report.
 //!
-//! `specs/Words` says which words name a script, `specs/Loading` what files load to, and `specs/Outcomes` what each answer
-//! means. The layer above may rely on this: what was loaded is what the files load to, and the results are right for it and
-//! for the journal; a told sink then has the report on them, or a prefix of it where a write failed or memory was wanting;
-//! where the run didn't begin nothing is written; and a fault of reading or of writing is told only where the folder's or
-//! the sink's count rose in the call.
+//! `specs/Words` says which words name a script, `specs/Loading` what files load to, `specs/Progress` how far loading has come,
+//! and `specs/Outcomes` what each answer means. The layer above may rely on this: what was loaded is what the files load to,
+//! the results are right for it and for the journal, and the journal follows the script's schedule; a told sink then has the
+//! report on them, or a prefix of it where a write failed or memory was wanting; where the run didn't begin nothing is
+//! written; and a fault of reading or of writing is told only where the folder's or the sink's count rose in the call.
 //!
 //! ```text
 //! let outcome = dq_top::rehearse(alloc, &words, &mut folder, &mut sink);
@@ -14,11 +14,10 @@
 mod fault;
 mod loading;
 mod outcome;
-mod playing;
+mod progress;
 mod refusals;
 mod rehearsing;
 mod words;
-mod zones;
 
 pub use fault::{Fault, tell};
 pub use outcome::Outcome;

@@ -1,31 +1,28 @@
-ghost use Rattle.std.specs.Prelude.{◌≡◌, ◌<◌, ◌≤◌, ◌∷◌, [], true, All, IfErr, IfOk, IfSome, Some, length, slice_get, sum_by};
+ghost use Rattle.std.specs.Prelude.{◌≡◌, ◌<◌, ◌≤◌, ◌++◌, ◌∷◌, [], ℕ, List as ListOf, true, All, IfErr, IfOk, IfSome, Some, length, slice_get, sum_by};
+ghost use Rattle.std.specs.List.{flat_map, list_all};
+ghost use Rattle.dq_base.specs.Headings.{Heading};
 ghost use Rattle.dq_base.specs.Limits.{all_room, cell_room};
-ghost use Rattle.dq_base.specs.Scripts.{IsScript, sources_of};
+ghost use Rattle.dq_base.specs.Scripts.{IsScript, heading_fits, lane_fits, source_in, sources_of, step_fits};
 ghost use Rattle.dq_base.specs.Versions.{IsVersion, cells_of};
 ghost use Rattle.dq_extract.specs.Loads.{AreOf};
 ghost use Rattle.dq_script.specs.Scripts.{script_of};
-ghost use Rattle.dq_top.specs.Loading.{IsAmong, built_script, files_read, first_file_of, loaded_of, names_read, publications, script_in, version_in, versions_in};
-ghost use Rattle.dq_top.specs.SingleRun.{IsSingle, first_source_of};
+ghost use Rattle.dq_top.specs.Loading.{IsAmong, built_script, files_read, loaded_of, names_read, publication_in, publications, script_in, versions_in};
 ghost use Rattle.dq_top.specs.Outcomes.{AnswersLoad, IsOfLoading, NamesFault, NamesUnbuilt, ReadCause};
+ghost use Rattle.dq_top.specs.Progress.{AnswersProgress, IsProgress, behind_one};
 
 use crate::fault::Fault;
-use dq_base::{Memory, Schema, Script, Step, Text};
-use dq_extract::{LoadFault, Loaded, Segment, SegmentList, load};
+use crate::progress::{Progress, begun, with_segment};
+use dq_base::{Memory, Schema, Schemas, Script, Step, Steps, Text};
+use dq_extract::{LoadFault, Loaded, SegmentList, load};
 use dq_outside::{Folder, FolderFault};
-use dq_script::{ScriptFault, is_single, read};
+use dq_script::{ScriptFault, read, wants_no_fault};
 use std::alloc::Global;
-use std::sync::Arc;
 
 /// The most bytes of a script.
 const SCRIPT_BYTES: u64 = 16777216;
 
-/// The most bytes of one file, and of all files.
+/// The most bytes of one file of a publish step.
 const FILE_BYTES: u64 = 67108864;
-
-const ALL_BYTES: u64 = 268435456;
-
-/// The most cells of all rows.
-const CELLS: u64 = 8388608;
 
 /// The fault of a file that isn't built.
 fn unbuilt(alloc: Global, name: &Text) -> Fault
@@ -51,16 +48,15 @@ fn ungiven(alloc: Global, name: &Text, fault: FolderFault) -> Fault
     }
 }
 
-/// The script that a file's bytes mean, where one lane alone is played.
+/// The script that a file's bytes mean, where nothing is wanted to fail.
 fn built(alloc: Global, name: &Text, bytes: &[u8]) -> Result<Script, Fault>
     ensures told { AnswersLoad (built_script name.now (script_of bytes.now)) (λ n. n ≡ name.now) result }
     ensures kind { IfErr result (NamesUnbuilt name.now) }
     ensures fits { IfOk result IsScript }
-    ensures single { IfOk result IsSingle }
 {
     match read(alloc, bytes) {
         Ok(script) => {
-            if is_single(&script) {
+            if wants_no_fault(&script) {
                 Ok(script)
             } else {
                 Err(unbuilt(alloc, name))
@@ -78,10 +74,7 @@ pub fn read_script<F: Folder>(alloc: Global, name: &Text, folder: &mut F) -> Res
     ensures later { F.faults folder.old ≤ F.faults folder.new }
     ensures cause { IfErr result (λ f. ReadCause (F.faults folder.old) (F.faults folder.new) (F.last_fault folder.new) (Some f)) }
     ensures kind { IfErr result IsOfLoading }
-
-    // It has one lane, which publishes a source by replace and then asks a batch.
     ensures fits { IfOk result IsScript }
-    ensures single { IfOk result IsSingle }
 {
     let bytes = match folder.read(alloc, name, SCRIPT_BYTES) {
         Ok(bytes) => bytes,
@@ -90,96 +83,144 @@ pub fn read_script<F: Folder>(alloc: Global, name: &Text, folder: &mut F) -> Res
     built(alloc, name, bytes.bytes())
 }
 
-/// Loads the file of that name, where so many bytes and cells are left.
-pub fn load_file<F: Folder>(
-    alloc: Global,
-    schema: &Schema,
-    left: u64,
-    cells: u64,
-    name: &Text,
-    folder: &mut F,
-) -> Result<Segment, Fault>
-    requires columns { 0 < length schema.now.names }
-    requires cells { cells ≤ cell_room }
-    ensures kept { F.files folder.new ≡ F.files folder.old }
-    ensures told { IfSome (F.files folder.old) (λ files. AnswersLoad (version_in (record { heading = schema.now; file = name.now }) left cells (files name.now)) (λ n. n ≡ name.now) result) }
-    ensures later { F.faults folder.old ≤ F.faults folder.new }
-    ensures cause { IfErr result (λ f. ReadCause (F.faults folder.old) (F.faults folder.new) (F.last_fault folder.new) (Some f)) }
-    ensures kind { IfErr result IsOfLoading }
-    ensures heading { IfOk result (λ segment. segment.heading ≡ schema.now) }
-    ensures cells { IfOk result (λ segment. cells_of segment ≤ cells) }
-{
-    let room = left.min(FILE_BYTES);
-    let bytes = match folder.read(alloc, name, room) {
-        Ok(bytes) => bytes,
-        Err(fault) => return Err(ungiven(alloc, name, fault)),
-    };
-    match load(alloc, schema, cells, bytes.bytes()) {
-        Ok(segment) => Ok(segment),
-        Err(LoadFault::Unbuilt) => Err(unbuilt(alloc, name)),
-        Err(LoadFault::Memory) => Err(Fault::Memory),
-    }
-}
-
-/// The file that the first step publishes.
-fn published_file(script: &Script) -> &Text
-    requires { IsSingle script.now }
-    ensures { result.now ≡ first_file_of script.now.lanes }
-{
-    let Some(steps) = script.lanes.get(0) else {
-        unreachable!();
-    };
-    let Some(Step::Publish { file, .. }) = steps.get(0) else {
-        unreachable!();
-    };
-    file
-}
-
-/// The source that the first step publishes.
-pub fn published_source(script: &Script) -> u32
-    requires { IsSingle script.now }
-    ensures { result ≡ first_source_of script.now.lanes }
-{
-    let Some(steps) = script.lanes.get(0) else {
-        unreachable!();
-    };
-    let Some(Step::Publish { source, .. }) = steps.get(0) else {
-        unreachable!();
-    };
-    *source
-}
-
-/// The schema of the source that the first step publishes.
-pub fn published_schema(script: &Script) -> &Schema
-    requires fits { IsScript script.now }
-    requires single { IsSingle script.now }
-    ensures schema { slice_get script.now.schemas (first_source_of script.now.lanes) ≡ Some result.now }
+/// The schema of a source.
+fn schema_at(schemas: &Schemas, source: u32) -> &Schema
+    requires fits { list_all heading_fits schemas.now ≡ true }
+    requires place { source < length schemas.now }
+    ensures schema { slice_get schemas.now source ≡ Some result.now }
     ensures columns { 0 < length result.now.names }
 {
-    let place = u64::from(published_source(script));
-    let Some(schema) = script.schemas.get(place) else {
+    let Some(schema) = schemas.get(u64::from(source)) else {
         unreachable!();
     };
     schema
 }
 
-/// The list of one segment.
-fn one_segment(alloc: Global, segment: Segment) -> Result<SegmentList, Memory>
-    ensures { IfOk result (λ segments. segments ≡ segment ∷ []) }
+/// Loads the file of that name behind those that are loaded.
+fn load_file<F: Folder>(
+    alloc: Global,
+    schema: &Schema,
+    name: &Text,
+    progress: Progress,
+    folder: &mut F,
+) -> Result<Progress, Fault>
+    requires columns { 0 < length schema.now.names }
+    requires cells { progress.cells ≤ cell_room }
+    ensures kept { F.files folder.new ≡ F.files folder.old }
+    ensures told { IfSome (F.files folder.old) (λ files. AnswersLoad (behind_one files progress (record { heading = schema.now; file = name.now })) (λ n. n ≡ name.now) result) }
+    ensures later { F.faults folder.old ≤ F.faults folder.new }
+    ensures cause { IfErr result (λ f. ReadCause (F.faults folder.old) (F.faults folder.new) (F.last_fault folder.new) (Some f)) }
+    ensures kind { IfErr result IsOfLoading }
+    ensures cells { IfOk result (λ next. next.cells ≤ cell_room) }
+    ensures progress { (schemas : ListOf Heading) (sources : ListOf ℕ) (source : ℕ)
+        → slice_get schemas source ≡ Some schema.now → IsProgress schemas sources progress
+        → IfOk result (IsProgress schemas (sources ++ source ∷ [])) }
 {
-    let mut segments = SegmentList::new(alloc);
-    segments.push(Arc::new(alloc, segment)?)?;
-    Ok(segments)
+    let room = progress.left.min(FILE_BYTES);
+    let bytes = match folder.read(alloc, name, room) {
+        Ok(bytes) => bytes,
+        Err(fault) => return Err(ungiven(alloc, name, fault)),
+    };
+    let segment = match load(alloc, schema, progress.cells, bytes.bytes()) {
+        Ok(segment) => segment,
+        Err(LoadFault::Unbuilt) => return Err(unbuilt(alloc, name)),
+        Err(LoadFault::Memory) => return Err(Fault::Memory),
+    };
+    match with_segment(alloc, progress, bytes.len(), segment) {
+        Ok(next) => Ok(next),
+        Err(Memory) => Err(Fault::Memory),
+    }
 }
 
-/// Loads the files of a script's publish steps, in order of lanes and steps.
+/// Loads the file of a step, where it publishes.
+fn load_step<F: Folder>(
+    alloc: Global,
+    schemas: &Schemas,
+    step: &Step,
+    progress: Progress,
+    folder: &mut F,
+) -> Result<Progress, Fault>
+    requires columns { list_all heading_fits schemas.now ≡ true }
+    requires fits { step_fits (length schemas.now) step.now ≡ true }
+    requires cells { progress.cells ≤ cell_room }
+    ensures kept { F.files folder.new ≡ F.files folder.old }
+    ensures told { IfSome (F.files folder.old) (λ files. AnswersProgress files progress (publication_in schemas.now step.now) result) }
+    ensures later { F.faults folder.old ≤ F.faults folder.new }
+    ensures cause { IfErr result (λ f. ReadCause (F.faults folder.old) (F.faults folder.new) (F.last_fault folder.new) (Some f)) }
+    ensures kind { IfErr result IsOfLoading }
+    ensures cells { IfOk result (λ next. next.cells ≤ cell_room) }
+    ensures progress { (sources : ListOf ℕ) → IsProgress schemas.now sources progress → IfOk result (IsProgress schemas.now (sources ++ source_in step.now)) }
+{
+    match step {
+        Step::Publish { source, file, .. } => {
+            load_file(alloc, schema_at(schemas, *source), file, progress, folder)
+        }
+        Step::Batch(_) => Ok(progress),
+    }
+}
+
+/// Loads the files of a lane's publish steps, in order.
+fn load_lane<F: Folder>(
+    alloc: Global,
+    schemas: &Schemas,
+    steps: &[Step],
+    progress: Progress,
+    folder: &mut F,
+) -> Result<Progress, Fault>
+    requires columns { list_all heading_fits schemas.now ≡ true }
+    requires fits { list_all (step_fits (length schemas.now)) steps.now ≡ true }
+    requires cells { progress.cells ≤ cell_room }
+    ensures kept { F.files folder.new ≡ F.files folder.old }
+    ensures told { IfSome (F.files folder.old) (λ files. AnswersProgress files progress (flat_map (publication_in schemas.now) steps.now) result) }
+    ensures later { F.faults folder.old ≤ F.faults folder.new }
+    ensures cause { IfErr result (λ f. ReadCause (F.faults folder.old) (F.faults folder.new) (F.last_fault folder.new) (Some f)) }
+    ensures kind { IfErr result IsOfLoading }
+    ensures cells { IfOk result (λ next. next.cells ≤ cell_room) }
+    ensures progress { (sources : ListOf ℕ) → IsProgress schemas.now sources progress → IfOk result (IsProgress schemas.now (sources ++ flat_map source_in steps.now)) }
+{
+    let mut so_far = progress;
+    for step in steps {
+        so_far = match load_step(alloc, schemas, step, so_far, folder) {
+            Ok(next) => next,
+            Err(fault) => return Err(fault),
+        };
+    }
+    Ok(so_far)
+}
+
+/// Loads the files of the publish steps of all lanes, in order of lanes and steps.
+fn load_lanes<F: Folder>(
+    alloc: Global,
+    schemas: &Schemas,
+    lanes: &[Steps],
+    folder: &mut F,
+) -> Result<Progress, Fault>
+    requires columns { list_all heading_fits schemas.now ≡ true }
+    requires fits { list_all (lane_fits (length schemas.now)) lanes.now ≡ true }
+    ensures told { IfSome (F.files folder.old) (λ files. AnswersProgress files (record { left = all_room; cells = cell_room; segments = [] }) (flat_map (λ steps. flat_map (publication_in schemas.now) steps) lanes.now) result) }
+    ensures later { F.faults folder.old ≤ F.faults folder.new }
+    ensures cause { IfErr result (λ f. ReadCause (F.faults folder.old) (F.faults folder.new) (F.last_fault folder.new) (Some f)) }
+    ensures kind { IfErr result IsOfLoading }
+    ensures progress { IfOk result (IsProgress schemas.now (sources_of lanes.now)) }
+{
+    let mut so_far = begun(alloc);
+    for steps in lanes {
+        so_far = match load_lane(alloc, schemas, steps.as_slice(), so_far, folder) {
+            Ok(next) => next,
+            Err(fault) => return Err(fault),
+        };
+    }
+    Ok(so_far)
+}
+
+/// Loads the files of a script's publish steps, in order of lanes and steps, and ends at the first fault. A file that two
+/// steps name is read twice. The cost is linear in the bytes that are read, and in the steps.
 fn load_segments<F: Folder>(
     alloc: Global,
     script: &Script,
     folder: &mut F,
 ) -> Result<SegmentList, Fault>
-    requires fits { IsScript script.now }
-    requires single { IsSingle script.now }
+    requires { IsScript script.now }
     ensures told { IfSome (F.files folder.old) (λ files. AnswersLoad (versions_in files all_room cell_room (publications script.now)) (λ n. IsAmong n (files_read files all_room cell_room (publications script.now))) result) }
     ensures later { F.faults folder.old ≤ F.faults folder.new }
     ensures cause { IfErr result (λ f. ReadCause (F.faults folder.old) (F.faults folder.new) (F.last_fault folder.new) (Some f)) }
@@ -188,16 +229,9 @@ fn load_segments<F: Folder>(
     ensures cells { IfOk result (λ segments. sum_by cells_of segments ≤ cell_room) }
     ensures versions { IfOk result (λ segments. All IsVersion segments) }
 {
-    let schema = published_schema(script);
-    let file = published_file(script);
-    let segment = match load_file(alloc, schema, ALL_BYTES, CELLS, file, folder) {
-        Ok(segment) => segment,
-        Err(fault) => return Err(fault),
-    };
-    let _count = segment.count();
-    match one_segment(alloc, segment) {
-        Ok(segments) => Ok(segments),
-        Err(Memory) => Err(Fault::Memory),
+    match load_lanes(alloc, &script.schemas, script.lanes.as_slice(), folder) {
+        Ok(progress) => Ok(progress.segments),
+        Err(fault) => Err(fault),
     }
 }
 
@@ -207,7 +241,6 @@ pub fn load_script<F: Folder>(alloc: Global, name: &Text, folder: &mut F) -> Res
     ensures later { F.faults folder.old ≤ F.faults folder.new }
     ensures cause { IfErr result (λ f. ReadCause (F.faults folder.old) (F.faults folder.new) (F.last_fault folder.new) (Some f)) }
     ensures kind { IfErr result IsOfLoading }
-    ensures single { IfOk result (λ loaded. IsSingle loaded.script) }
 {
     let script = match read_script(alloc, name, folder) {
         Ok(script) => script,

@@ -3,8 +3,8 @@ ghost use Rattle.std.specs.Prelude.{◌≡◌, ◌↔◌, ◌≤◌, ℕ, List a
 ghost use Rattle.dq_extract.specs.Loads.{LoadedFiles};
 ghost use Rattle.dq_outside.specs.Causes.{Rose};
 ghost use Rattle.dq_outside.specs.Reads.{Files};
+ghost use Rattle.dq_rehearse.specs.Follows.{Follows};
 ghost use Rattle.dq_report.specs.Report.{report_text};
-ghost use Rattle.dq_top.specs.SingleRun.{IsSingle};
 ghost use Rattle.dq_top.specs.Loading.{Loads, loaded_of};
 ghost use Rattle.dq_top.specs.Outcomes.{AnswersFiles, AreRight, IsOfPlay, IsServed, IsWhole, ReadCause, Writes, any_invalid, any_wanting, loaded_files, status_of};
 ghost use Rattle.dq_top.specs.Words.{script_name};
@@ -12,36 +12,36 @@ ghost use Rattle.dq_top.specs.Words.{script_name};
 use crate::fault::Fault;
 use crate::loading::load_script;
 use crate::outcome::{Outcome, refused, status, told_of};
-use crate::playing::{Played, play};
 use crate::refusals;
 use crate::words::find_script;
 use dq_base::{Memory, Texts};
 use dq_extract::Loaded;
 use dq_outside::{Folder, Sink};
+use dq_rehearse::{Whole, play_script};
 use dq_report::write;
 use std::alloc::Global;
 use std::sync::Arc;
 
 /// Plays what was loaded, and writes the report.
 fn run<S: Sink>(alloc: Global, loaded: Loaded, sink: &mut S) -> Outcome
-    requires { IsSingle loaded.script }
     ensures status { result.status ≡ status_of result.told result.results }
     ensures told { IsOfPlay result.told }
     ensures whole { IsWhole result.told (loaded_files result.loaded) }
     ensures loaded { IfSome result.loaded (λ owner. arc_value owner ≡ loaded) }
     ensures right { AreRight (loaded_files result.loaded) result.journal.entries result.results }
+    ensures follows { IfSome result.loaded (λ owner. Follows (arc_value owner) result.journal.entries result.results) }
     ensures writes { Writes (S.written sink.old) (S.written sink.new) (report_text result.journal.entries result.results) (loaded_files result.loaded) result.told }
     ensures later { S.faults sink.old ≤ S.faults sink.new }
     ensures cause { result.told ≡ Some Fault.Write → Rose (S.faults sink.old) (S.faults sink.new) }
     ensures served { result.told ≡ None → any_wanting result.results ≡ false }
 {
-    let Ok(played) = play(alloc, &loaded) else {
-        return refused(alloc, Fault::Memory);
-    };
-    let Played { journal, results } = played;
     let Ok(owner) = Arc::new(alloc, loaded) else {
         return refused(alloc, Fault::Memory);
     };
+    let Ok(whole) = play_script(alloc, &owner) else {
+        return refused(alloc, Fault::Memory);
+    };
+    let Whole { journal, results } = whole;
     let wanting = refusals::any_wanting(&results);
     let told = told_of(wanting, write(alloc, &journal, &results, sink));
     Outcome {
@@ -67,9 +67,11 @@ pub fn rehearse<F: Folder, S: Sink>(
     ensures status { result.status ≡ status_of result.told result.results }
     ensures served { result.told ≡ None → any_wanting result.results ≡ false }
 
-    // Where the run began, the results are right for what was loaded and for the journal; else there are none.
+    // Where the run began, the results are right for what was loaded and for the journal, and the journal follows the script's
+    // schedule; else there are none.
     ensures whole { IsWhole result.told (loaded_files result.loaded) }
     ensures right { AreRight (loaded_files result.loaded) result.journal.entries result.results }
+    ensures follows { IfSome result.loaded (λ owner. Follows (arc_value owner) result.journal.entries result.results) }
 
     // What was loaded is what the files load to, and what was written is the report, or a prefix of it.
     ensures loaded { IfSome result.loaded (λ owner. IfSome (F.files folder.old) (λ files. IfSome (script_name words.now) (λ name. loaded_of files name ≡ Loads (arc_value owner)))) }

@@ -173,10 +173,230 @@ zone 2 rows 2
     ),
 ];
 
+// Files that sessions publish beside the sales.
+const NEXT_SALES: &str = "region,year,amount
+North,2022,1
+";
+
+const MORE_SALES: &str = "region,year,amount
+East,2022,3
+";
+
+// Two sessions, of which the second publishes between two loads of the first one's dashboard.
+const SESSIONS: &str =
+    r#"{"form":1,"extracts":[{"name":"sales","columns":[["region","text"],["year","whole"],["amount","whole"]]}],"lanes":[[{"publish":"sales","how":"replace","file":"sales.csv"},{"batch":[{"source":"sales","by":["region"],"show":[["rows"]]}]},{"batch":[{"source":"sales","by":["region"],"show":[["rows"]]}]}],[{"publish":"sales","how":"replace","file":"next.csv"}]],"schedule":[1,1,2,1,1,1,1,1,1,1]}"#;
+
+// A publication behind another.
+const APPENDED: &str =
+    r#"{"form":1,"extracts":[{"name":"sales","columns":[["region","text"],["year","whole"],["amount","whole"]]}],"lanes":[[{"publish":"sales","how":"replace","file":"sales.csv"},{"publish":"sales","how":"append","file":"more.csv"},{"batch":[{"source":"sales","by":["region"],"show":[["rows"]]}]}]]}"#;
+
+// Three sessions in the order of a schedule, and one zone that isn't valid.
+const TURNS: &str =
+    r#"{"form":1,"extracts":[{"name":"sales","columns":[["region","text"],["year","whole"],["amount","whole"]]}],"lanes":[[{"publish":"sales","how":"replace","file":"sales.csv"},{"batch":[{"source":"sales","by":["region"],"show":[["rows"]]}]}],[{"publish":"sales","how":"replace","file":"next.csv"},{"publish":"sales","how":"append","file":"more.csv"},{"batch":[{"source":"sales","by":["region"],"show":[["rows"]]}]}],[{"batch":[{"source":"sales","by":["colour"],"show":[["rows"]]}]},{"publish":"sales","how":"replace","file":"sales.csv"}]],"schedule":[3,2,2,1,2]}"#;
+
+// Scripts of sessions, with their statuses and reports.
+const PLAYS: [(&str, u8, &str); 3] = [
+    (
+        SESSIONS,
+        0,
+        r#"report 1
+lanes 2
+entries 6
+1 publish lane 1 step 1
+2 admit lane 1 step 2 met
+3 publish lane 2 step 1
+4 admit lane 1 step 3 met
+5 end lane 1
+6 end lane 2
+lane 1 steps 3
+step 1 published 1
+step 2 admitted 2 zones 1
+zone 1 rows 3
+null 1
+"East" 2
+"West" 2
+step 3 admitted 4 zones 1
+zone 1 rows 1
+"North" 1
+lane 2 steps 1
+step 1 published 3
+"#,
+    ),
+    (
+        APPENDED,
+        0,
+        r#"report 1
+lanes 1
+entries 4
+1 publish lane 1 step 1
+2 publish lane 1 step 2
+3 admit lane 1 step 3 met
+4 end lane 1
+lane 1 steps 3
+step 1 published 1
+step 2 published 2
+step 3 admitted 3 zones 1
+zone 1 rows 3
+null 1
+"East" 3
+"West" 2
+"#,
+    ),
+    (
+        TURNS,
+        1,
+        r#"report 1
+lanes 3
+entries 10
+1 admit lane 3 step 1 met
+2 publish lane 2 step 1
+3 publish lane 2 step 2
+4 publish lane 1 step 1
+5 admit lane 2 step 3 met
+6 admit lane 1 step 2 met
+7 end lane 2
+8 publish lane 3 step 2
+9 end lane 1
+10 end lane 3
+lane 1 steps 2
+step 1 published 4
+step 2 admitted 6 zones 1
+zone 1 rows 3
+null 1
+"East" 2
+"West" 2
+lane 2 steps 3
+step 1 published 2
+step 2 published 3
+step 3 admitted 5 zones 1
+zone 1 rows 3
+null 1
+"East" 2
+"West" 2
+lane 3 steps 2
+step 1 admitted 1 zones 1
+zone 1 invalid column
+step 2 published 8
+"#,
+    ),
+];
+
+// What stands in the script, what stands in its place, and the report.
+const LONGER: [(&str, &str, &str); 6] = [
+    (
+        "]}]]}",
+        "]}],[]]}",
+        r#"report 1
+lanes 2
+entries 4
+1 publish lane 1 step 1
+2 end lane 2
+3 admit lane 1 step 2 met
+4 end lane 1
+lane 1 steps 2
+step 1 published 1
+step 2 admitted 3 zones 1
+zone 1 rows 3
+null 4 1
+"East" 15 2
+"West" 7 2
+lane 2 steps 0
+"#,
+    ),
+    (
+        "]}]]}",
+        r#"]},{"batch":[]}]]}"#,
+        r#"report 1
+lanes 1
+entries 4
+1 publish lane 1 step 1
+2 admit lane 1 step 2 met
+3 admit lane 1 step 3 met
+4 end lane 1
+lane 1 steps 3
+step 1 published 1
+step 2 admitted 2 zones 1
+zone 1 rows 3
+null 4 1
+"East" 15 2
+"West" 7 2
+step 3 admitted 3 zones 0
+"#,
+    ),
+    (
+        "[[{",
+        r#"[[{"batch":[]},{"#,
+        r#"report 1
+lanes 1
+entries 4
+1 admit lane 1 step 1 met
+2 publish lane 1 step 2
+3 admit lane 1 step 3 met
+4 end lane 1
+lane 1 steps 3
+step 1 admitted 1 zones 0
+step 2 published 2
+step 3 admitted 3 zones 1
+zone 1 rows 3
+null 4 1
+"East" 15 2
+"West" 7 2
+"#,
+    ),
+    (
+        "[[{",
+        "[[],[{",
+        r#"report 1
+lanes 2
+entries 4
+1 end lane 1
+2 publish lane 2 step 1
+3 admit lane 2 step 2 met
+4 end lane 2
+lane 1 steps 0
+lane 2 steps 2
+step 1 published 2
+step 2 admitted 3 zones 1
+zone 1 rows 3
+null 4 1
+"East" 15 2
+"West" 7 2
+"#,
+    ),
+    (
+        r#"{"publish":"sales","how":"replace","file":"sales.csv"}"#,
+        r#"{"batch":[]}"#,
+        "report 1
+lanes 1
+entries 3
+1 admit lane 1 step 1 met
+2 admit lane 1 step 2 met
+3 end lane 1
+lane 1 steps 2
+step 1 admitted 1 zones 0
+step 2 admitted 2 zones 1
+zone 1 rows 0
+",
+    ),
+    (
+        r#"{"publish":"sales","how":"replace","file":"sales.csv"},"#,
+        "",
+        "report 1
+lanes 1
+entries 2
+1 admit lane 1 step 1 met
+2 end lane 1
+lane 1 steps 1
+step 1 admitted 1 zones 1
+zone 1 rows 0
+",
+    ),
+];
+
 // What stands in the script, what stands in its place, and whether that is built; it is then answered as the script.
-const CHANGES: [(&str, &str, bool); 25] = [
+const CHANGES: [(&str, &str, bool); 19] = [
     ("]}]]}", r#"]}]],"schedule":[]}"#, true),
-    ("]}]]}", r#"]}]],"schedule":[1]}"#, false),
+    ("]}]]}", r#"]}]],"schedule":[1]}"#, true),
     ("]}]]}", r#"]}]],"literal":1,"clever":4096}"#, true),
     ("]}]]}", r#"]}]],"literal":4097}"#, false),
     ("]}]]}", r#"]}]],"faults":[{"lane":1,"dials":[]}]}"#, true),
@@ -185,10 +405,6 @@ const CHANGES: [(&str, &str, bool); 25] = [
     ("]}]]}", r#"]}]],"faults":[{"lane":2}]}"#, false),
     ("]}]]}", r#"]}]],"rows":[]}"#, false),
     ("]}]]}", "]}", false),
-    ("]}]]}", "]}],[]]}", false),
-    ("]}]]}", r#"]},{"batch":[]}]]}"#, false),
-    ("[[{", r#"[[{"batch":[]},{"#, false),
-    ("[[{", "[[],[{", false),
     (r#""form":1"#, r#""form":2"#, false),
     (
         r#""extracts":["#,
@@ -196,17 +412,7 @@ const CHANGES: [(&str, &str, bool); 25] = [
         true,
     ),
     (r#""publish":"sales""#, r#""publish":"costs""#, false),
-    (r#""replace""#, r#""append""#, false),
-    (
-        r#"{"publish":"sales","how":"replace","file":"sales.csv"}"#,
-        r#"{"batch":[]}"#,
-        false,
-    ),
-    (
-        r#"{"publish":"sales","how":"replace","file":"sales.csv"},"#,
-        "",
-        false,
-    ),
+    (r#""replace""#, r#""append""#, true),
     (r#"[["sum","amount"],["rows"]]"#, "[[]]", false),
     (r#""by":["region"]"#, r#""by":"region""#, false),
     (r#""by""#, r#""order":[],"filters":[],"by""#, true),
@@ -339,6 +545,21 @@ fn check_report(rt: &impl Abort, alloc: Global, script: &str, sales: &str, statu
     assert_eq!(rt; outcome.results.len(), 1, "{script}");
 }
 
+/// The report of a script of sessions is this text, and the status this one.
+fn check_play(rt: &impl Abort, alloc: Global, script: &str, status: u8, report: &str) {
+    let mut files = both(rt, alloc, script, SALES);
+    add(rt, alloc, &mut files, b"next.csv", NEXT_SALES.as_bytes());
+    add(rt, alloc, &mut files, b"more.csv", MORE_SALES.as_bytes());
+    let mut folder = SureFolder::new(files);
+    let mut sink = SureSink::new(alloc);
+    let given = words(rt, alloc, &["rehearse", "row.json"]);
+    let outcome = rehearse(alloc, &given, &mut folder, &mut sink);
+    assert_eq!(rt; sink.bytes(), report.as_bytes(), "{script}");
+    assert_eq!(rt; outcome.status, status, "{script}");
+    assert!(rt; outcome.told.is_none(), "{script}");
+    assert!(rt; outcome.loaded.is_some(), "{script}");
+}
+
 /// The script isn't built.
 fn check_unbuilt(rt: &impl Abort, alloc: Global, script: &str) {
     let mut folder = SureFolder::new(both(rt, alloc, script, SALES));
@@ -380,6 +601,18 @@ fn runs_are_reported(rt: HostRuntime) {
     for (zones, sales, status, rest) in RUNS {
         let script = changed(&rt, alloc, ZONES, zones);
         check_report(&rt, alloc, script.as_str(), sales, status, rest);
+    }
+}
+
+#[test]
+fn sessions_are_reported(rt: HostRuntime) {
+    let alloc = rt.alloc();
+    for (script, status, report) in PLAYS {
+        check_play(&rt, alloc, script, status, report);
+    }
+    for (old, new, report) in LONGER {
+        let script = changed(&rt, alloc, old, new);
+        check_play(&rt, alloc, script.as_str(), 0, report);
     }
 }
 
@@ -451,6 +684,14 @@ fn files_are_unread(rt: HostRuntime) {
     add(&rt, alloc, &mut script, b"row.json", SCRIPT.as_bytes());
     let mut alone = MemFolder::new(script, Numbers64::new(alloc));
     check_files(&rt, alloc, &mut alone, 3, sales_unread);
+    let mut without = MemFolder::new(both(&rt, alloc, SESSIONS, SALES), Numbers64::new(alloc));
+    check_files(
+        &rt,
+        alloc,
+        &mut without,
+        3,
+        "dashboards: cannot read next.csv",
+    );
 }
 
 #[test]

@@ -1,5 +1,4 @@
 use Rattle.std.proofs.Common.{◌≡◌, ◌++◌, ◌+◌, drop}
-use Rattle.std.specs.List.{flat_map}
 use Rattle.dq_report.specs.Report as form
 use Rattle.dq_report.proofs.entries.put_entries.Given as goal
 

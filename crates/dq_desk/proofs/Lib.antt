@@ -1,0 +1,10 @@
+pub mod Machine
+pub mod Cells
+pub mod Bounds
+pub mod Columns
+pub mod Standing
+pub mod Kept
+pub mod Agreeing
+pub mod Admissions
+pub mod Worked
+pub mod Lanes

@@ -1,0 +1,11 @@
+pub mod Admitting
+pub mod Kept
+pub mod Machine
+pub mod Others
+pub mod Preparing
+pub mod Publishing
+pub mod Refreshing
+pub mod Stamps
+pub mod State
+pub mod Stood
+pub mod Worked

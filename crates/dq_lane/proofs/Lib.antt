@@ -1,0 +1,10 @@
+pub mod Answered
+pub mod Entries
+pub mod Kept
+pub mod Limits
+pub mod Others
+pub mod Prepared
+pub mod Refused
+pub mod Results
+pub mod Settled
+pub mod Worked

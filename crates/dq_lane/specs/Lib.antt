@@ -1,0 +1,8 @@
+pub mod Answering
+pub mod Courses
+pub mod Events
+pub mod Kept
+pub mod Right
+pub mod Turns
+pub mod View
+pub mod Worked

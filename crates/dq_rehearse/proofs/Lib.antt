@@ -1,0 +1,4 @@
+pub mod Turned
+pub mod New
+pub mod Walked
+pub mod Gathered

@@ -1,0 +1,44 @@
+-- Lanes that didn't begin.
+use Rattle.std.proofs.Common.{◌≡◌, ℕ, zero, suc, ◌+◌, ◌<◌, List, [], ◌∷◌, ◌++◌, length, map, get_or, refl, ap, sym, ◌∙◌, arith}
+use Rattle.std.specs.List.{range_with_len}
+use Rattle.dq_extract.specs.Loads.{LoadedFiles}
+use Rattle.dq_journal.specs.declared.entry.Entry.{Entry}
+use Rattle.dq_lane.specs.View.{LaneOf, new_lane}
+use Rattle.dq_rehearse.specs.Lanes.{AreOn, IsOn, all_new, no_lane}
+use Rattle.dq_rehearse.proofs.Turned.{goes_here}
+
+-- one more
+
+pub range-more : (a n : ℕ) → range_with_len a (n + 1) ≡ range_with_len a n ++ (a + n) ∷ []
+range-more a zero = let e : a + 0 ≡ a = omega arith in rw e refl
+range-more a (suc n) = let e : suc n + 1 ≡ suc (n + 1) = omega arith in let f : a + suc n ≡ a + 1 + n = omega arith in rw (e, f) (ap (λ r. a ∷ r) (range-more (a + 1) n))
+
+map-push : (l : LoadedFiles) (ns : List ℕ) (n : ℕ) → map (new_lane l) (ns ++ n ∷ []) ≡ map (new_lane l) ns ++ new_lane l n ∷ []
+map-push l [] n = refl
+map-push l (x ∷ ns) n = ap (λ vs. new_lane l x ∷ vs) (map-push l ns n)
+
+pub new-more : (l : LoadedFiles) (n : ℕ) → map (new_lane l) (range_with_len 1 n) ++ new_lane l (n + 1) ∷ [] ≡ map (new_lane l) (range_with_len 1 (n + 1))
+new-more l n = let e : n + 1 ≡ 1 + n = omega arith in rw (range-more 1 n, e) (sym (map-push l (range_with_len 1 n) (1 + n)))
+
+-- they stand on a journal without entries
+
+new_at : (l : LoadedFiles) (n a k : ℕ) (d : LaneOf) → k < n → get_or (map (new_lane l) (range_with_len a n)) k d ≡ new_lane l (a + k)
+new_at l zero a k d lt = absurd (omega arith)
+new_at l (suc n) a zero d lt = let e : a + 0 ≡ a = omega arith in rw e refl
+new_at l (suc n) a (suc k) d lt = let e : a + suc k ≡ a + 1 + k = omega arith in rw e (new_at l n (a + 1) k d (omega arith))
+
+new_length : (l : LoadedFiles) (n a : ℕ) → length (map (new_lane l) (range_with_len a n)) ≡ n
+new_length l zero a = refl
+new_length l (suc n) a = ap suc (new_length l n (a + 1))
+
+IsOn-start : (l : LoadedFiles) (k : ℕ) → IsOn l [] (k + 1) (new_lane l (1 + k))
+IsOn-start l k = record { numbered = omega arith; loaded = refl; goes_on = goes_here (k + 1) [] }
+
+pub AreOn-start : (l : LoadedFiles) (journal : List Entry) (lanes : List LaneOf) → journal ≡ [] → lanes ≡ all_new l → AreOn l journal lanes
+AreOn-start l journal lanes none new =
+    let n = length l.script.lanes in
+    let count : length lanes ≡ n = ap length new ∙ new_length l n 1 in
+    record {
+      count = count;
+      each = λ k lt. rw (none, new, new_at l n 1 k (no_lane l) (omega (arith, lt, count))) (IsOn-start l k);
+    }

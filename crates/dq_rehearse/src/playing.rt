@@ -1,0 +1,98 @@
+ghost use Rattle.std.specs.List.{list_all};
+ghost use Rattle.std.specs.Prelude.{◌≡◌, ◌+◌, ◌<◌, ℕ, [], ◌∷◌, length, map, true, false, All};
+ghost use Rattle.dq_base.specs.Scripts.{is_lane};
+ghost use Rattle.dq_rehearse.specs.Follows.{FollowsTurns, round_of, rounds_of};
+ghost use Rattle.dq_rehearse.specs.Lanes.{AreOn, IsDone, IsOn, all_new, places_in};
+ghost use Rattle.dq_rehearse.specs.Turns.{AreOver, HavePlayed, Turned, Turns, turns_left};
+
+use dq_base::Numbers;
+use dq_desk::Desk;
+use dq_lane::{Lane, Stepped};
+use std::alloc::Global;
+
+/// A desk and its lanes, which are done.
+#[derive(Drop)]
+pub struct Played {
+    pub desk: Desk,
+    pub lanes: Vec<Lane>,
+}
+
+// A turn of a lane: its work, and then its step. Answers whether it moved.
+fn advance(alloc: Global, desk: &mut Desk, lane: &mut Lane) -> bool
+    requires { IsOn desk.old.loaded desk.old.journal lane.old.number lane.old }
+    ensures loaded { desk.new.loaded ≡ desk.old.loaded }
+    ensures turns { Turns desk.old.loaded lane.old.number lane.old lane.new desk.old.journal desk.new.journal result }
+{
+    lane.work(alloc);
+    matches!(lane.step(alloc, desk), Stepped::Moved)
+}
+
+// A turn of the lane at a place. Answers whether it moved.
+fn turn(alloc: Global, desk: &mut Desk, lanes: &mut Vec<Lane>, place: usize) -> bool
+    requires place { place < length lanes.old.items }
+    requires on { AreOn desk.old.loaded desk.old.journal lanes.old.items }
+    ensures loaded { desk.new.loaded ≡ desk.old.loaded }
+    ensures played { HavePlayed desk.old.loaded ((place + 1) ∷ []) desk.old.journal lanes.old.items desk.new.journal lanes.new.items }
+    ensures turned { Turned desk.old.loaded place lanes.old.items lanes.new.items desk.old.journal desk.new.journal result }
+{
+    advance(alloc, desk, &mut lanes[place])
+}
+
+// A turn of each lane, in order. Answers whether one moved.
+fn round(alloc: Global, desk: &mut Desk, lanes: &mut Vec<Lane>) -> bool
+    requires { AreOn desk.old.loaded desk.old.journal lanes.old.items }
+    ensures loaded { desk.new.loaded ≡ desk.old.loaded }
+    ensures played { HavePlayed desk.old.loaded (round_of desk.old.loaded) desk.old.journal lanes.old.items desk.new.journal lanes.new.items }
+    ensures less { result ≡ true → turns_left lanes.new.items < turns_left lanes.old.items }
+    ensures over { result ≡ false → AreOver desk.old.loaded desk.new.journal lanes.new.items (length lanes.new.items) }
+{
+    let mut moved = false;
+    for place in 0..lanes.len() {
+        if turn(alloc, desk, lanes, place) {
+            moved = true;
+        }
+    }
+    moved
+}
+
+// The schedule's turns, in order.
+fn play_schedule(alloc: Global, desk: &mut Desk, lanes: &mut Vec<Lane>, schedule: &[u32])
+    requires on { AreOn desk.old.loaded desk.old.journal lanes.old.items }
+    requires schedule { list_all (is_lane (length desk.old.loaded.script.lanes)) schedule.now ≡ true }
+    ensures loaded { desk.new.loaded ≡ desk.old.loaded }
+    ensures played { HavePlayed desk.old.loaded schedule.now desk.old.journal lanes.old.items desk.new.journal lanes.new.items }
+{
+    for number in schedule {
+        turn(alloc, desk, lanes, *number as usize - 1);
+    }
+}
+
+// Rounds, until nothing moved in the last one.
+fn play_rounds(alloc: Global, desk: &mut Desk, lanes: &mut Vec<Lane>)
+    requires { AreOn desk.old.loaded desk.old.journal lanes.old.items }
+    ensures loaded { desk.new.loaded ≡ desk.old.loaded }
+    ensures played { (rounds : ℕ) × HavePlayed desk.old.loaded (rounds_of desk.old.loaded rounds) desk.old.journal lanes.old.items desk.new.journal lanes.new.items }
+    ensures over { AreOver desk.old.loaded desk.new.journal lanes.new.items (length lanes.new.items) }
+{
+    while round(alloc, desk, lanes) {}
+}
+
+/// Plays the lanes to their ends: first the schedule's turns, and then rounds from the first lane to the last until all are
+/// done. A turn of a lane is all its pending work and then its next step; a turn of a lane that is done passes. It always
+/// returns and is never refused: where memory is wanting, the lanes' results say so. It costs the work and the steps of all
+/// lanes, and a constant more for each turn.
+pub fn play(alloc: Global, desk: Desk, lanes: Vec<Lane>, schedule: &Numbers) -> Played
+    requires desk { desk.journal ≡ [] }
+    requires lanes { lanes.items ≡ all_new desk.loaded }
+    requires schedule { list_all (is_lane (length desk.loaded.script.lanes)) schedule.now ≡ true }
+    ensures loaded { result.desk.loaded ≡ desk.loaded }
+    ensures on { AreOn desk.loaded result.desk.journal result.lanes.items }
+    ensures done { All IsDone result.lanes.items }
+    ensures follows { FollowsTurns desk.loaded schedule.now result.desk.journal (map places_in result.lanes.items) }
+{
+    let mut desk = desk;
+    let mut lanes = lanes;
+    play_schedule(alloc, &mut desk, &mut lanes, schedule.as_slice());
+    play_rounds(alloc, &mut desk, &mut lanes);
+    Played { desk, lanes }
+}

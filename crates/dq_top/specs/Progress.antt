@@ -1,0 +1,34 @@
+-- How far the loading of a script's files has come.
+use Rattle.std.specs.Prelude.{ℕ, ◌+◌, ◌-◌, ◌≤◌, List, [], ◌∷◌, ◌++◌, sum_by, All, Result}
+use Rattle.dq_base.specs.Headings.{Heading}
+use Rattle.dq_base.specs.Limits.{cell_room}
+use Rattle.dq_base.specs.Versions.{Version, IsVersion, cells_of}
+use Rattle.dq_outside.specs.Reads.{Files}
+use Rattle.dq_extract.specs.Loads.{AreOf}
+use Rattle.dq_top.specs.Loading.{Load, Loads, Publication, IsAmong, bytes_in, files_read, then_load, version_in}
+use Rattle.dq_top.specs.Outcomes.{AnswersLoad}
+use Rattle.dq_top.specs.declared.fault.Fault.{Fault}
+use Rattle.dq_top.specs.declared.progress.Progress.{Progress}
+
+-- one more version, of a file of so many bytes
+abbrev pub with_version : Progress → ℕ → Version → Progress
+with_version p bytes v = record { left = p.left - bytes; cells = p.cells - cells_of v; segments = p.segments ++ v ∷ [] }
+
+-- behind one more file
+abbrev pub behind_one : Files → Progress → Publication → Load Progress
+behind_one files p x = then_load (version_in x p.left p.cells (files x.file)) (λ v. Loads (with_version p (bytes_in (files x.file)) v))
+
+-- behind these files, or the first fault
+abbrev pub behind : Files → Progress → List Publication → Load Progress
+behind files p [] = Loads p
+behind files p (x ∷ xs) = then_load (behind_one files p x) (λ q. behind files q xs)
+
+-- the answer of loading these files, where they are told
+abbrev pub AnswersProgress : Files → Progress → List Publication → Result Progress Fault → Type 0
+AnswersProgress files p xs result = AnswersLoad (behind files p xs) (λ n. IsAmong n (files_read files p.left p.cells xs)) result
+
+-- a segment for each of the sources so far, within the room of cells
+pub record IsProgress (schemas : List Heading) (sources : List ℕ) (p : Progress) : Type 0 where
+  pub fit : AreOf schemas sources p.segments
+  pub cells : sum_by cells_of p.segments + p.cells ≤ cell_room
+  pub versions : All IsVersion p.segments
