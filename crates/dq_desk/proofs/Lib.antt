@@ -1,7 +1,6 @@
 pub mod Machine
 pub mod Cells
 pub mod Bounds
-pub mod Columns
 pub mod Standing
 pub mod Kept
 pub mod Agreeing

@@ -10,11 +10,11 @@ use Rattle.dq_base.specs.Scripts.{step_of}
 use Rattle.dq_base.specs.Versions.{Version}
 use Rattle.dq_base.specs.declared.script.Step.{Step}
 use Rattle.dq_base.specs.declared.script.Step.TheVariants as step
+use Rattle.dq_extract.proofs.Columns.{some_columns}
 use Rattle.dq_extract.proofs.Places.{FitsStep-segment_of}
 use Rattle.dq_extract.specs.Loads.{LoadedFiles, IsLoaded, FitsStep, segment_of}
 use Rattle.dq_journal.specs.Standing.{Rows}
 use Rattle.dq_desk.proofs.Bounds.{IsBounded, left-publish}
-use Rattle.dq_desk.proofs.Columns.{some_columns}
 use Rattle.dq_desk.specs.Kept.{no_stand, standing, IsStanding}
 use Rattle.dq_desk.specs.Publishing.{rows_in, IsPublish, MayPublish}
 use Rattle.dq_desk.specs.Refreshing.{CanRefresh}

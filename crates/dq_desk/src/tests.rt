@@ -162,7 +162,9 @@ fn loaded(rt: &impl Abort, alloc: Global) -> Loaded
     put(rt, &mut segments, shared(rt, alloc, sales, SALES));
     put(rt, &mut segments, shared(rt, alloc, sales, MORE));
     put(rt, &mut segments, shared(rt, alloc, more, SALES));
-    Loaded::new(script, segments)
+    Loaded::new(alloc, script, segments)
+        .ok()
+        .expect(rt, "memory")
 }
 
 fn owner(rt: &impl Abort, alloc: Global, query: Query) -> Arc<Canon>

@@ -2,13 +2,11 @@
 use Rattle.std.proofs.Common.{◌≡◌, ◌<◌, ◌≤◌, ℕ, ◌+◌, ◌-◌, List, [], ◌∷◌, ◌++◌, length, take, drop, get_or, refl, ap, sym, ◌∙◌, arith, length-append, true, false, Bool}
 use Rattle.std.proofs.lemmas.Grind.{flat_map-append}
 use Rattle.std.proofs.lemmas.List.{append-nil, take_more, take-append-drop}
-use Rattle.std.proofs.lemmas.Option.{slice_get_within, get_or_from_slice_get}
 use Rattle.std.specs.List.{flat_map}
 use Rattle.std.specs.Prelude.{slice_get, Some, None, nat_eq, if◌then◌else◌}
 use Rattle.dq_base.specs.Headings.{Heading}
-use Rattle.dq_base.specs.Scripts.{numbered, source_in, sources_of}
+use Rattle.dq_base.specs.Scripts.{numbered}
 use Rattle.dq_base.specs.Versions.{Version}
-use Rattle.dq_base.specs.declared.script.Step.{Step}
 use Rattle.dq_extract.specs.Loads.{AreOf}
 
 -- one more item
@@ -32,16 +30,6 @@ item_there false items place x is = is
 
 pub numbered-there : {X : Type 0} (items : List X) (number : ℕ) (x : X) → numbered items number ≡ Some x → slice_get items (number - 1) ≡ Some x
 numbered-there items number x is = item_there (nat_eq number 0) items (number - 1) x is
-
--- the publish steps before a step are no more than all
-pub before_all : (lanes : List (List Step)) (lane : ℕ) (steps : List Step) (step : ℕ) → numbered lanes lane ≡ Some steps
-    → length (sources_of (take (lane - 1) lanes)) + length (flat_map source_in (take (step - 1) steps)) ≤ length (sources_of lanes)
-before_all lanes lane steps step is =
-    let there = numbered-there lanes lane steps is in
-    let all : List Step → List ℕ = λ ss. flat_map source_in ss in
-    let more = length-flat_map-more all lanes (lane - 1) steps (slice_get_within lanes (lane - 1) steps there) in
-    let item = ap (λ ss. length (flat_map source_in ss)) (get_or_from_slice_get lanes (lane - 1) steps steps there) in
-    omega (arith, more, item, length-flat_map-take all lanes (lane - 1 + 1), length-flat_map-take source_in steps (step - 1))
 
 -- as many segments as sources
 pub AreOf-length : (headings : List Heading) (sources : List ℕ) (segments : List Version) → AreOf headings sources segments → length sources ≡ length segments

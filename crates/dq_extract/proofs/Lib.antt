@@ -1,3 +1,5 @@
+pub mod Behind
+pub mod Columns
 pub mod Counts
 pub mod Extracts
 pub mod Fits

@@ -32,6 +32,24 @@ abbrev pub before_step : List (List Step) → ℕ → ℕ → ℕ
 before_step lanes lane step =
     length (sources_of (take (lane - 1) lanes)) + length (flat_map source_in (take (step - 1) (unwrap_or (numbered lanes lane) [])))
 
+-- each item mapped beside the number of sources before it, of which so many stand before the first
+abbrev pub map_behind : {X Y : Type 0} → (X → List ℕ) → (ℕ → X → Y) → ℕ → List X → List Y
+map_behind sources f before [] = []
+map_behind sources f before (x ∷ xs) = f before x ∷ map_behind sources f (before + length (sources x)) xs
+
+-- for each of these steps, how many publish steps stand before it
+abbrev pub places_from : ℕ → List Step → List ℕ
+places_from before steps = map_behind source_in (λ place step. place) before steps
+
+-- for each step of these lanes, how many publish steps stand before it
+abbrev pub places_in : List (List Step) → List (List ℕ)
+places_in lanes = map_behind (λ steps. flat_map source_in steps) places_from 0 lanes
+
+-- what was loaded, with the places of all steps
+pub record IsIndexed (l : LoadedFiles) (places : List (List ℕ)) : Type 0 where
+  pub loaded : IsLoaded l
+  pub index : places ≡ places_in l.script.lanes
+
 -- the segment at that place, for a publish step alone
 abbrev pub published_at : List Version → ℕ → Option Step → Option Version
 published_at segments place None = None

@@ -1,13 +1,14 @@
 ghost use Rattle.std.specs.Arc.{arc_value};
 ghost use Rattle.std.specs.List.{flat_map};
 ghost use Rattle.std.specs.Option.{option_copied};
-ghost use Rattle.std.specs.Prelude.{◌≡◌, ◌-◌, ◌<◌, ◌^◌, length, option_map, take};
+ghost use Rattle.std.specs.Prelude.{◌≡◌, ◌+◌, ◌<◌, ◌^◌, IfOk, length, option_map};
 ghost use Rattle.dq_base.specs.Scripts.{numbered, source_in, sources_of, step_of};
-ghost use Rattle.dq_extract.specs.Loads.{FitsStep, IsLoaded, segment_of};
+ghost use Rattle.dq_extract.specs.Loads.{FitsStep, IsLoaded, before_step, places_from, places_in, segment_of};
 
 use crate::segment::Segment;
 use crate::segments::SegmentList;
-use dq_base::{List, Script, Step, Steps};
+use dq_base::{List, Memory, Numbers64, Script, Step, Steps};
+use std::alloc::Global;
 use std::marker::Model;
 use std::sync::Arc;
 
@@ -16,16 +17,18 @@ use std::sync::Arc;
 pub struct Loaded {
     script: Script,
     segments: SegmentList,
+    // For each lane, the place of each step's segment.
+    places: List<Numbers64>,
 }
 
 impl Model for Loaded {
-    ghost use Rattle.dq_extract.specs.Loads.{LoadedFiles, IsLoaded};
+    ghost use Rattle.dq_extract.specs.Loads.{LoadedFiles, IsIndexed};
 
     ghost Value = { LoadedFiles };
 
     ghost view = { λ l. record { script = l.script; segments = l.segments } };
 
-    ghost invariant = { λ l. IsLoaded (record { script = l.script; segments = l.segments }) };
+    ghost invariant = { λ l. IsIndexed (record { script = l.script; segments = l.segments }) l.places };
 }
 
 // The item of that number, from 1.
@@ -38,49 +41,58 @@ fn item_at<T>(items: &List<T>, number: u32) -> Option<&T>
     items.get(number as u64 - 1)
 }
 
-// The items before the one of that number, from 1.
-fn items_before<T>(items: &[T], number: u32) -> &[T]
-    ensures { result.now ≡ take (number - 1) items.now }
+// One for a publish step, and none for a batch.
+fn sources_in(step: &Step) -> u64
+    ensures { result ≡ length (source_in step.now) }
 {
-    let count = (number as usize).saturating_sub(1);
-    if items.len() < count {
-        return items;
+    match step {
+        Step::Publish { .. } => 1,
+        Step::Batch(_) => 0,
     }
-    &items[..count]
 }
 
-// How many of these steps publish.
-fn count_steps(steps: &[Step]) -> usize
-    ensures { result ≡ length (flat_map source_in steps.now) }
+// For each of these steps, how many publish steps stand before it, where so many stand before the first. The count goes on
+// behind the last.
+fn places_of(alloc: Global, steps: &[Step], count: &mut u64) -> Result<Numbers64, Memory>
+    requires { count.old + length (flat_map source_in steps.now) < 2 ^ 64 }
+    ensures places { IfOk result (λ places. places ≡ places_from count.old steps.now) }
+    ensures count { IfOk result (λ _. count.new ≡ count.old + length (flat_map source_in steps.now)) }
 {
-    let mut count = 0usize;
+    let mut places = List::with_capacity(alloc, steps.len() as u64)?;
     for step in steps {
-        if let Step::Publish { .. } = step {
-            count += 1;
-        }
+        places.push(*count)?;
+        *count += sources_in(step);
     }
-    count
+    Ok(places)
 }
 
-// How many steps of these lanes publish.
-fn count_lanes(lanes: &[Steps]) -> usize
+// For each of these lanes its steps' places.
+fn index_of(alloc: Global, lanes: &[Steps]) -> Result<List<Numbers64>, Memory>
     requires { length (sources_of lanes.now) < 2 ^ 64 }
-    ensures { result ≡ length (sources_of lanes.now) }
+    ensures { IfOk result (λ index. index ≡ places_in lanes.now) }
 {
-    let mut count = 0usize;
-    for lane in lanes {
-        count += count_steps(lane.as_slice());
+    let mut index = List::with_capacity(alloc, lanes.len() as u64)?;
+    let mut count = 0u64;
+    for steps in lanes {
+        let places = places_of(alloc, steps.as_slice(), &mut count)?;
+        index.push(places)?;
     }
-    count
+    Ok(index)
 }
 
 impl Loaded {
-    /// A script within the limits, with the segments of its publish steps.
-    pub fn new(script: Script, segments: SegmentList) -> Loaded
+    /// A script within the limits, with the segments of its publish steps. The cost is linear in the steps.
+    pub fn new(alloc: Global, script: Script, segments: SegmentList) -> Result<Loaded, Memory>
         requires { IsLoaded (record { script = script; segments = segments }) }
-        ensures { result ≡ record { script = script; segments = segments } }
+        ensures { IfOk result (λ loaded. loaded ≡ record { script = script; segments = segments }) }
     {
-        Loaded { script, segments }
+        let _count = segments.len();
+        let places = index_of(alloc, script.lanes.as_slice())?;
+        Ok(Loaded {
+            script,
+            segments,
+            places,
+        })
     }
 
     /// The script.
@@ -91,22 +103,23 @@ impl Loaded {
         &self.script
     }
 
+    // The place of a step's segment, if there is such a step.
+    fn place(&self, lane: u32, step: u32) -> Option<u64>
+        ensures { result ≡ option_map (λ _. before_step self.now.script.lanes lane step) (step_of self.now.script.lanes lane step) }
+    {
+        let places = item_at(&self.places, lane)?;
+        item_at(places, step).copied()
+    }
+
     /// The segment of a publish step, or none exactly where there is no such step or it is a batch. Lanes and steps are
-    /// numbered from 1. The cost is that of counting the steps before it.
+    /// numbered from 1. The cost is constant.
     pub fn segment(&self, lane: u32, step: u32) -> Option<&Arc<Segment>>
         ensures segment { option_map (λ owner. arc_value owner.now) result ≡ segment_of self.now lane step }
         ensures step { FitsStep self.now.script.schemas (step_of self.now.script.lanes lane step) (segment_of self.now lane step) }
     {
-        let lanes = &self.script.lanes;
-        let steps = item_at(lanes, lane)?;
-        match item_at(steps, step)? {
+        match item_at(item_at(&self.script.lanes, lane)?, step)? {
             Step::Batch(_) => None,
-            Step::Publish { .. } => {
-                let _count = self.segments.len();
-                let before = count_lanes(items_before(lanes.as_slice(), lane));
-                let place = before + count_steps(items_before(steps.as_slice(), step));
-                self.segments.get(place as u64)
-            }
+            Step::Publish { .. } => self.segments.get(self.place(lane, step)?),
         }
     }
 }

@@ -166,7 +166,9 @@ fn loaded(rt: &impl Abort, alloc: Global, lanes: LaneSteps, second: &[u8]) -> Lo
     let mut segments = SegmentList::new(alloc);
     put(rt, &mut segments, shared(rt, alloc, sales, SALES));
     put(rt, &mut segments, shared(rt, alloc, sales, second));
-    Loaded::new(script, segments)
+    Loaded::new(alloc, script, segments)
+        .ok()
+        .expect(rt, "memory")
 }
 
 fn share(rt: &impl Abort, loaded: &Arc<Loaded>) -> Arc<Loaded>

@@ -167,7 +167,9 @@ fn loaded(rt: &impl Abort, alloc: Global, script: Script, second: &[u8]) -> Load
     let mut segments = SegmentList::new(alloc);
     put(rt, &mut segments, shared(rt, alloc, sales, SALES));
     put(rt, &mut segments, shared(rt, alloc, sales, second));
-    Loaded::new(script, segments)
+    Loaded::new(alloc, script, segments)
+        .ok()
+        .expect(rt, "memory")
 }
 
 // A whole run of what was loaded.

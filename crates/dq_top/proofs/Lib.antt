@@ -1,5 +1,4 @@
 pub mod Behind
-pub mod Columns
 pub mod Fine
 pub mod Reached
 pub mod Refused

@@ -246,8 +246,12 @@ pub fn load_script<F: Folder>(alloc: Global, name: &Text, folder: &mut F) -> Res
         Ok(script) => script,
         Err(fault) => return Err(fault),
     };
-    match load_segments(alloc, &script, folder) {
-        Ok(segments) => Ok(Loaded::new(script, segments)),
-        Err(fault) => Err(fault),
+    let segments = match load_segments(alloc, &script, folder) {
+        Ok(segments) => segments,
+        Err(fault) => return Err(fault),
+    };
+    match Loaded::new(alloc, script, segments) {
+        Ok(loaded) => Ok(loaded),
+        Err(Memory) => Err(Fault::Memory),
     }
 }
