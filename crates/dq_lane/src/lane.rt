@@ -11,7 +11,7 @@ use crate::course::Course;
 use crate::event::next_event;
 use crate::progress::Progress;
 use crate::refusals::refused_steps;
-use dq_base::{Memory, Script, Step};
+use dq_base::{Memory, Step};
 use dq_desk::Desk;
 use dq_extract::Loaded;
 use dq_journal::{Journal, LaneResults};
