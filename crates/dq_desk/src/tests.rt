@@ -10,7 +10,7 @@ ghost use Rattle.dq_desk.specs.Worked.{rows_of, worked_lanes, worked_preparation
 use crate::{Desk, Prepared, Stood};
 use dq_base::{
     Canon, Fails, FailsList, How, LaneSteps, List, Measure, Queries, Query, Schema, Schemas,
-    Script, Sort, Sorts, Step, Steps, Text, Texts,
+    Script, Sort, Step, Steps, Text, Texts,
 };
 use dq_extract::{Loaded, Segment, SegmentList, load};
 use dq_journal::Entry;

@@ -11,7 +11,7 @@ use crate::course::Course;
 use crate::event::next_event;
 use crate::progress::Progress;
 use crate::refusals::refused_steps;
-use dq_base::{Memory, Script, Step};
+use dq_base::{Memory, Step};
 use dq_desk::Desk;
 use dq_extract::Loaded;
 use dq_journal::{Journal, LaneResults};
@@ -65,7 +65,8 @@ fn lane_steps(loaded: &Loaded, number: u32) -> &[Step]
 }
 
 impl Lane {
-    /// A lane of the script that didn't begin. The room of all its results is taken, and each of its zones is checked.
+    /// A lane of the script that didn't begin. The room of all its results is taken, and each of its zones is checked. An `Err`
+    /// is want of memory for these, and leaves nothing.
     pub fn new(alloc: Global, number: u32, loaded: Arc<Loaded>) -> Result<Lane, Memory>
         requires { (0 < number) × (number ≤ length (arc_value loaded).script.lanes) }
         ensures { IfOk result (λ lane. lane ≡ new_lane (arc_value loaded) number) }
@@ -98,7 +99,7 @@ impl Lane {
     }
 
     /// A turn: the event of the next step, or the end behind the last step. A step that is refused for memory uses up the turn
-    /// without an entry. It costs what the desk's call costs, and the results need no memory.
+    /// without an entry, and leaves the desk as it was. It costs what the desk's call costs, and the results need no memory.
     pub fn step(&mut self, alloc: Global, desk: &mut Desk) -> Stepped
         requires worked { self.old.pending ≡ false }
         requires loaded { desk.old.loaded ≡ self.old.loaded }
@@ -124,7 +125,8 @@ impl Lane {
         Stepped::Moved
     }
 
-    /// The results of its steps, in order. It takes no memory.
+    /// The results of its steps, one for each in order: that of a refused step says so, and each other tells the place of its
+    /// entry. It takes no memory.
     pub fn into_results(self) -> LaneResults
         requires { self.done ≡ true }
         ensures right { AreRightFrom self.loaded self.number self.seen result }
