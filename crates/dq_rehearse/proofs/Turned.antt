@@ -90,10 +90,10 @@ Turned-turn l old new lanes i v w false lt at t =
 
 over-next : (l : LoadedFiles) (place : ℕ) (old new : List LaneOf) (before now : List Entry) → Passed l place old new before now → AreOver l before old place → (k : ℕ) → k < place + 1 → (k ≡ place) ⊎ (k ≢ place) → IsOver l now new k
 over-next l place old new before now p h k lt (inl e) = rw e p.over
-over-next l place old new before now p h k lt (inr ne) = p.keeps k (h k (omega arith))
+over-next l place old new before now p h k lt (inr ne) = p.keeps k (h.each k (omega arith))
 
 pub AreOver-more : (l : LoadedFiles) (place : ℕ) (old new : List LaneOf) (before now : List Entry) → Passed l place old new before now → AreOver l before old place → AreOver l now new (place + 1)
-AreOver-more l place old new before now p h = λ k lt. over-next l place old new before now p h k lt (decide k place)
+AreOver-more l place old new before now p h = record { each = λ k lt. over-next l place old new before now p h k lt (decide k place) }
 
 -- a turn leaves as many lanes, and no more turns
 
