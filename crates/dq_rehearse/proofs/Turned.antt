@@ -1,16 +1,15 @@
 -- What a turn of a lane leaves of all lanes.
-use Rattle.std.proofs.Common.{◌≡◌, ◌≢◌, ℕ, zero, suc, ◌+◌, ◌<◌, ◌≤◌, Bool, true, false, eqb, List, [], ◌∷◌, ◌++◌, length, map, get_or, slice_set, length-set, ◌⊎◌, inl, inr, refl, ap, sym, ◌∙◌, arith, append_assoc, append-nil}
+use Rattle.std.proofs.Common.{◌≡◌, ◌≢◌, ℕ, ◌+◌, ◌<◌, ◌≤◌, Bool, true, false, eqb, List, [], ◌∷◌, ◌++◌, length, get_or, slice_set, length-set, ◌⊎◌, inl, inr, refl, ap, sym, ◌∙◌, arith, append_assoc, append-nil}
 use Rattle.std.proofs.lemmas.Grind.{common_steps}
 use Rattle.std.proofs.lemmas.List.{get_or-set_same, get_or-set_other}
 use Rattle.std.proofs.lemmas.List.Sums.{sum_by-set}
-use Rattle.std.specs.List.{range_with_len}
 use Rattle.dq_extract.specs.Loads.{LoadedFiles}
 use Rattle.dq_journal.specs.Journals.{lane_of}
 use Rattle.dq_journal.specs.declared.entry.Entry.{Entry}
 use Rattle.dq_desk.specs.Others.{GoesOn, NoneOf}
 use Rattle.dq_lane.specs.Turns.{GrewBy}
-use Rattle.dq_lane.specs.View.{LaneOf, new_lane}
-use Rattle.dq_rehearse.specs.Lanes.{AreOn, IsOn, all_new, no_lane}
+use Rattle.dq_lane.specs.View.{LaneOf}
+use Rattle.dq_rehearse.specs.Lanes.{AreOn, IsOn, no_lane}
 use Rattle.dq_rehearse.specs.Turns.{AreOver, IsOver, Passed, Turned, Turns, left_of, turns_left}
 
 -- places

@@ -124,10 +124,10 @@ pub FollowsSoFar-turn : (l : LoadedFiles) (old new : List Entry) (lanes : List L
     → FollowsSoFar l old lanes turns → FollowsSoFar l new (slice_set lanes i w) (turns ++ (i + 1) ∷ [])
 FollowsSoFar-turn l old new lanes turns i v w moved lt at numbered t so_far = record {
   walk = λ places all.
-    let here : MayEndWith w (get_or places i []) = rw (get_or-set_same lanes i w (no_lane l) lt) at (all.each i (rw (length-set lanes i w) lt)) in
-    let either = turn_either l places old new lanes i v w moved lt at numbered t here in
-    let before : MayAllEndWith l lanes places = record { each = λ k le. may_at l lanes places i v w k at either.1 all le (decide k i) } in
-    rw (map-set lanes i w) (Walk-push l places (at_start l) turns (cursor old lanes) (i + 1) _ (so_far.walk places before) either.0);
+      let here : MayEndWith w (get_or places i []) = rw (get_or-set_same lanes i w (no_lane l) lt) at (all.each i (rw (length-set lanes i w) lt)) in
+      let either = turn_either l places old new lanes i v w moved lt at numbered t here in
+      let before : MayAllEndWith l lanes places = record { each = λ k le. may_at l lanes places i v w k at either.1 all le (decide k i) } in
+      rw (map-set lanes i w) (Walk-push l places (at_start l) turns (cursor old lanes) (i + 1) _ (so_far.walk places before) either.0);
 }
 
 -- from the first turn to whole rounds

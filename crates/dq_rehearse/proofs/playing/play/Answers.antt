@@ -1,4 +1,3 @@
-use Rattle.std.proofs.Common.{arith}
 use Rattle.dq_rehearse.proofs.Plays.{all_followed}
 use Rattle.dq_rehearse.proofs.playing.play.Goals as goal
 
