@@ -1,23 +1,13 @@
 -- The results of lanes that are done are right.
-use Rattle.std.proofs.Common.{◌≡◌, ℕ, zero, suc, ◌+◌, ◌-◌, ◌<◌, ◌≤◌, nat_eq, Bool, true, false, ◌&&◌, List, [], ◌∷◌, ◌++◌, length, map, drop, get_or, Option, Some, None, refl, ap, sym, ◌∙◌, subst, arith}
+use Rattle.std.proofs.Common.{◌≡◌, ℕ, zero, suc, ◌+◌, ◌-◌, ◌<◌, nat_eq, false, List, [], ◌∷◌, ◌++◌, length, map, drop, get_or, Option, refl, ap, sym, ◌∙◌, subst, arith}
 use Rattle.std.proofs.lemmas.Grind.{common_steps}
-use Rattle.std.proofs.lemmas.List.{length-replicate}
 use Rattle.std.proofs.lemmas.Option.{unwrap_or-slice_get}
-use Rattle.std.specs.List.{list_all}
-use Rattle.dq_base.specs.Scripts.{is_lane, step_of}
 use Rattle.dq_base.specs.declared.script.Step.{Step}
-use Rattle.dq_base.specs.declared.script.Step.TheVariants as step
 use Rattle.dq_extract.specs.Loads.{LoadedFiles}
-use Rattle.dq_journal.specs.Journals.{lane_of}
-use Rattle.dq_journal.specs.Right.{AreLanesRight, IsLaneRight, IsRight, NameKinds, NamesKind, step_in, steps_named}
-use Rattle.dq_journal.specs.declared.entry.Met.{Met}
+use Rattle.dq_journal.specs.Right.{AreLanesRight, IsLaneRight, IsRight}
 use Rattle.dq_journal.specs.declared.entry.Entry.{Entry}
-use Rattle.dq_journal.specs.declared.entry.Entry.TheVariants.{Publish, Admit, Lease, Give, Lose, Land, Fall, Take, End}
 use Rattle.dq_journal.specs.declared.result.StepResult.{StepResult}
-use Rattle.dq_desk.specs.Admitting.{IsBatch}
-use Rattle.dq_desk.specs.Machine.{next, Allowed, LegalFrom, Legal}
-use Rattle.dq_desk.specs.Publishing.{IsPublish}
-use Rattle.dq_desk.specs.State.{IsFree, State, start}
+use Rattle.dq_desk.specs.Machine.{Legal}
 use Rattle.dq_desk.proofs.Lanes.{Legal-kinds, Legal-known}
 use Rattle.dq_lane.specs.Right.{AreRightFrom}
 use Rattle.dq_lane.specs.View.{LaneOf, place_of, steps_of}

@@ -1,4 +1,5 @@
 pub mod Turned
 pub mod New
 pub mod Walked
+pub mod Plays
 pub mod Gathered

@@ -17,8 +17,8 @@ map-push : (l : LoadedFiles) (ns : List ℕ) (n : ℕ) → map (new_lane l) (ns 
 map-push l [] n = refl
 map-push l (x ∷ ns) n = ap (λ vs. new_lane l x ∷ vs) (map-push l ns n)
 
-pub new-more : (l : LoadedFiles) (n : ℕ) → map (new_lane l) (range_with_len 1 n) ++ new_lane l (n + 1) ∷ [] ≡ map (new_lane l) (range_with_len 1 (n + 1))
-new-more l n = let e : n + 1 ≡ 1 + n = omega arith in rw (range-more 1 n, e) (sym (map-push l (range_with_len 1 n) (1 + n)))
+pub new_more : (l : LoadedFiles) (n : ℕ) → map (new_lane l) (range_with_len 1 n) ++ new_lane l (n + 1) ∷ [] ≡ map (new_lane l) (range_with_len 1 (n + 1))
+new_more l n = let e : n + 1 ≡ 1 + n = omega arith in rw (range-more 1 n, e) (sym (map-push l (range_with_len 1 n) (1 + n)))
 
 -- they stand on a journal without entries
 
@@ -34,8 +34,8 @@ new_length l (suc n) a = ap suc (new_length l n (a + 1))
 IsOn-start : (l : LoadedFiles) (k : ℕ) → IsOn l [] (k + 1) (new_lane l (1 + k))
 IsOn-start l k = record { numbered = omega arith; loaded = refl; goes_on = goes_here (k + 1) [] }
 
-pub AreOn-start : (l : LoadedFiles) (journal : List Entry) (lanes : List LaneOf) → journal ≡ [] → lanes ≡ all_new l → AreOn l journal lanes
-AreOn-start l journal lanes none new =
+pub on_at_start : (l : LoadedFiles) (journal : List Entry) (lanes : List LaneOf) → journal ≡ [] → lanes ≡ all_new l → AreOn l journal lanes
+on_at_start l journal lanes none new =
     let n = length l.script.lanes in
     let count : length lanes ≡ n = ap length new ∙ new_length l n 1 in
     record {

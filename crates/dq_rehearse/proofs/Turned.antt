@@ -1,16 +1,15 @@
 -- What a turn of a lane leaves of all lanes.
-use Rattle.std.proofs.Common.{◌≡◌, ◌≢◌, ℕ, zero, suc, ◌+◌, ◌<◌, ◌≤◌, Bool, true, false, eqb, List, [], ◌∷◌, ◌++◌, length, map, get_or, slice_set, length-set, ◌⊎◌, inl, inr, refl, ap, sym, ◌∙◌, arith, append_assoc, append-nil}
+use Rattle.std.proofs.Common.{◌≡◌, ◌≢◌, ℕ, ◌+◌, ◌<◌, ◌≤◌, Bool, true, false, eqb, List, [], ◌∷◌, ◌++◌, length, get_or, slice_set, length-set, ◌⊎◌, inl, inr, refl, ap, sym, ◌∙◌, arith, append_assoc, append-nil}
 use Rattle.std.proofs.lemmas.Grind.{common_steps}
 use Rattle.std.proofs.lemmas.List.{get_or-set_same, get_or-set_other}
 use Rattle.std.proofs.lemmas.List.Sums.{sum_by-set}
-use Rattle.std.specs.List.{range_with_len}
 use Rattle.dq_extract.specs.Loads.{LoadedFiles}
 use Rattle.dq_journal.specs.Journals.{lane_of}
 use Rattle.dq_journal.specs.declared.entry.Entry.{Entry}
 use Rattle.dq_desk.specs.Others.{GoesOn, NoneOf}
 use Rattle.dq_lane.specs.Turns.{GrewBy}
-use Rattle.dq_lane.specs.View.{LaneOf, new_lane}
-use Rattle.dq_rehearse.specs.Lanes.{AreOn, IsOn, all_new, no_lane}
+use Rattle.dq_lane.specs.View.{LaneOf}
+use Rattle.dq_rehearse.specs.Lanes.{AreOn, IsOn, no_lane}
 use Rattle.dq_rehearse.specs.Turns.{AreOver, IsOver, Passed, Turned, Turns, left_of, turns_left}
 
 -- places
@@ -90,10 +89,10 @@ Turned-turn l old new lanes i v w false lt at t =
 
 over-next : (l : LoadedFiles) (place : ℕ) (old new : List LaneOf) (before now : List Entry) → Passed l place old new before now → AreOver l before old place → (k : ℕ) → k < place + 1 → (k ≡ place) ⊎ (k ≢ place) → IsOver l now new k
 over-next l place old new before now p h k lt (inl e) = rw e p.over
-over-next l place old new before now p h k lt (inr ne) = p.keeps k (h k (omega arith))
+over-next l place old new before now p h k lt (inr ne) = p.keeps k (h.each k (omega arith))
 
 pub AreOver-more : (l : LoadedFiles) (place : ℕ) (old new : List LaneOf) (before now : List Entry) → Passed l place old new before now → AreOver l before old place → AreOver l now new (place + 1)
-AreOver-more l place old new before now p h = λ k lt. over-next l place old new before now p h k lt (decide k place)
+AreOver-more l place old new before now p h = record { each = λ k lt. over-next l place old new before now p h k lt (decide k place) }
 
 -- a turn leaves as many lanes, and no more turns
 

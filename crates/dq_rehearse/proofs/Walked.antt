@@ -122,11 +122,13 @@ may_at l lanes places i v w k at may all le (inr ne) =
 pub FollowsSoFar-turn : (l : LoadedFiles) (old new : List Entry) (lanes : List LaneOf) (turns : List ℕ) (i : ℕ) (v w : LaneOf) (moved : Bool)
     → i < length lanes → get_or lanes i (no_lane l) ≡ v → v.number ≡ i + 1 → Turns l (i + 1) v w old new moved
     → FollowsSoFar l old lanes turns → FollowsSoFar l new (slice_set lanes i w) (turns ++ (i + 1) ∷ [])
-FollowsSoFar-turn l old new lanes turns i v w moved lt at numbered t so_far = λ places all.
-    let here : MayEndWith w (get_or places i []) = rw (get_or-set_same lanes i w (no_lane l) lt) at (all.each i (rw (length-set lanes i w) lt)) in
-    let either = turn_either l places old new lanes i v w moved lt at numbered t here in
-    let before : MayAllEndWith l lanes places = record { each = λ k le. may_at l lanes places i v w k at either.1 all le (decide k i) } in
-    rw (map-set lanes i w) (Walk-push l places (at_start l) turns (cursor old lanes) (i + 1) _ (so_far places before) either.0)
+FollowsSoFar-turn l old new lanes turns i v w moved lt at numbered t so_far = record {
+  walk = λ places all.
+      let here : MayEndWith w (get_or places i []) = rw (get_or-set_same lanes i w (no_lane l) lt) at (all.each i (rw (length-set lanes i w) lt)) in
+      let either = turn_either l places old new lanes i v w moved lt at numbered t here in
+      let before : MayAllEndWith l lanes places = record { each = λ k le. may_at l lanes places i v w k at either.1 all le (decide k i) } in
+      rw (map-set lanes i w) (Walk-push l places (at_start l) turns (cursor old lanes) (i + 1) _ (so_far.walk places before) either.0);
+}
 
 -- from the first turn to whole rounds
 
@@ -135,7 +137,7 @@ used_none l zero a = refl
 used_none l (suc n) a = ap (λ r. 0 ∷ r) (used_none l n (a + 1))
 
 pub FollowsSoFar-start : (l : LoadedFiles) (journal : List Entry) (lanes : List LaneOf) → journal ≡ [] → lanes ≡ all_new l → FollowsSoFar l journal lanes []
-FollowsSoFar-start l journal lanes none new = λ places all. rw (none, new, used_none l (length l.script.lanes) 1) refl
+FollowsSoFar-start l journal lanes none new = record { walk = λ places all. rw (none, new, used_none l (length l.script.lanes) 1) refl }
 
 -- turns that were played
 
@@ -165,7 +167,7 @@ may_end l lanes = record { each = λ k lt. record { more = []; is = sym (ends_at
 over_at : (l : LoadedFiles) (journal : List Entry) (lanes : List LaneOf) → AreOver l journal lanes (length lanes) → (lane : ℕ) → 0 < lane → lane ≤ length lanes → (work_of (after l journal) lane).ended ≡ true
 over_at l journal lanes h lane some within =
     let back : lane - 1 + 1 ≡ lane = omega arith in
-    let ended = (h (lane - 1) (omega arith)).ended in
+    let ended = (h.each (lane - 1) (omega arith)).ended in
     subst (λ n. (work_of (after l journal) n).ended ≡ true) back ended
 
 pub FollowsTurns-all : (l : LoadedFiles) (schedule : List ℕ) (journal : List Entry) (lanes : List LaneOf) (rounds : ℕ) → length lanes ≡ length l.script.lanes
@@ -173,6 +175,6 @@ pub FollowsTurns-all : (l : LoadedFiles) (schedule : List ℕ) (journal : List E
 FollowsTurns-all l schedule journal lanes rounds count so_far over = record {
   rounds = rounds;
   used = map used_len lanes;
-  walk = so_far (map places_in lanes) (may_end l lanes);
+  walk = so_far.walk (map places_in lanes) (may_end l lanes);
   over = λ lane some within. over_at l journal lanes over lane some (rw count within);
 }

@@ -6,7 +6,7 @@ use Rattle.dq_desk.specs.Machine.{after}
 use Rattle.dq_desk.specs.State.{work_of}
 use Rattle.dq_lane.specs.Turns.{GrewBy, Moves}
 use Rattle.dq_lane.specs.View.{LaneOf}
-use Rattle.dq_rehearse.specs.Follows.{Cursor, Walk, at_start}
+use Rattle.dq_rehearse.specs.Follows.{Cursor, Walk, at_start, rounds_of}
 use Rattle.dq_rehearse.specs.Lanes.{AreOn, IsOn, no_lane}
 
 -- one lane
@@ -37,8 +37,8 @@ pub record IsOver (l : LoadedFiles) (journal : List Entry) (lanes : List LaneOf)
   pub ended : (work_of (after l journal) (k + 1)).ended ≡ true
 
 -- so are the first ones
-abbrev pub AreOver : LoadedFiles → List Entry → List LaneOf → ℕ → Type 0
-AreOver l journal lanes count = (k : ℕ) → k < count → IsOver l journal lanes k
+pub record AreOver (l : LoadedFiles) (journal : List Entry) (lanes : List LaneOf) (count : ℕ) : Type 0 where
+  pub each : (k : ℕ) → k < count → IsOver l journal lanes k
 
 -- a turn that passed changed no more than what the lane has seen
 pub record Passed (l : LoadedFiles) (place : ℕ) (old new : List LaneOf) (before now : List Entry) : Type 0 where
@@ -69,10 +69,15 @@ abbrev pub cursor : List Entry → List LaneOf → Cursor
 cursor journal lanes = record { journal = journal; used = map used_len lanes }
 
 -- whatever the lanes end with, the journal so far follows these turns
-abbrev pub FollowsSoFar : LoadedFiles → List Entry → List LaneOf → List ℕ → Type 0
-FollowsSoFar l journal lanes turns = (places : List (List (Option ℕ))) → MayAllEndWith l lanes places → Walk l places (at_start l) turns (cursor journal lanes)
+pub record FollowsSoFar (l : LoadedFiles) (journal : List Entry) (lanes : List LaneOf) (turns : List ℕ) : Type 0 where
+  pub walk : (places : List (List (Option ℕ))) → MayAllEndWith l lanes places → Walk l places (at_start l) turns (cursor journal lanes)
 
 -- these turns were played
 pub record HavePlayed (l : LoadedFiles) (turns : List ℕ) (old : List Entry) (before : List LaneOf) (new : List Entry) (now : List LaneOf) : Type 0 where
   pub on : AreOn l new now
   pub follows : (earlier : List ℕ) → FollowsSoFar l old before earlier → FollowsSoFar l new now (earlier ++ turns)
+
+-- so many rounds were played
+pub record HavePlayedRounds (l : LoadedFiles) (old : List Entry) (before : List LaneOf) (new : List Entry) (now : List LaneOf) : Type 0 where
+  pub rounds : ℕ
+  pub played : HavePlayed l (rounds_of l rounds) old before new now

@@ -9,6 +9,7 @@ use std::alloc::Global;
 use std::sync::Arc;
 
 /// The lanes of the script in order, none of which began. It costs the checks of all the script's zones.
+#[tactic(auto, using(crate::proofs::New::new_more))]
 pub fn new_lanes(alloc: Global, loaded: &Arc<Loaded>) -> Result<Vec<Lane>, Memory>
     ensures { IfOk result (λ lanes. lanes.items ≡ all_new (arc_value loaded.now)) }
 {

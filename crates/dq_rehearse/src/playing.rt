@@ -1,9 +1,9 @@
 ghost use Rattle.std.specs.List.{list_all};
 ghost use Rattle.std.specs.Prelude.{◌≡◌, ◌+◌, ◌<◌, ℕ, [], ◌∷◌, length, map, true, false, All};
 ghost use Rattle.dq_base.specs.Scripts.{is_lane};
-ghost use Rattle.dq_rehearse.specs.Follows.{FollowsTurns, round_of, rounds_of};
+ghost use Rattle.dq_rehearse.specs.Follows.{FollowsTurns, round_of};
 ghost use Rattle.dq_rehearse.specs.Lanes.{AreOn, IsDone, IsOn, all_new, places_in};
-ghost use Rattle.dq_rehearse.specs.Turns.{AreOver, HavePlayed, Turned, Turns, turns_left};
+ghost use Rattle.dq_rehearse.specs.Turns.{AreOver, HavePlayed, HavePlayedRounds, Turned, Turns, turns_left};
 
 use dq_base::Numbers;
 use dq_desk::Desk;
@@ -56,6 +56,7 @@ fn round(alloc: Global, desk: &mut Desk, lanes: &mut Vec<Lane>) -> bool
 }
 
 // The schedule's turns, in order.
+#[tactic(auto, using(crate::proofs::Plays::next_played))]
 fn play_schedule(alloc: Global, desk: &mut Desk, lanes: &mut Vec<Lane>, schedule: &[u32])
     requires on { AreOn desk.old.loaded desk.old.journal lanes.old.items }
     requires schedule { list_all (is_lane (length desk.old.loaded.script.lanes)) schedule.now ≡ true }
@@ -68,10 +69,11 @@ fn play_schedule(alloc: Global, desk: &mut Desk, lanes: &mut Vec<Lane>, schedule
 }
 
 // Rounds, until nothing moved in the last one.
+#[tactic(auto, using(crate::proofs::Plays::no_rounds, crate::proofs::Plays::more_rounds))]
 fn play_rounds(alloc: Global, desk: &mut Desk, lanes: &mut Vec<Lane>)
     requires { AreOn desk.old.loaded desk.old.journal lanes.old.items }
     ensures loaded { desk.new.loaded ≡ desk.old.loaded }
-    ensures played { (rounds : ℕ) × HavePlayed desk.old.loaded (rounds_of desk.old.loaded rounds) desk.old.journal lanes.old.items desk.new.journal lanes.new.items }
+    ensures played { HavePlayedRounds desk.old.loaded desk.old.journal lanes.old.items desk.new.journal lanes.new.items }
     ensures over { AreOver desk.old.loaded desk.new.journal lanes.new.items (length lanes.new.items) }
 {
     while round(alloc, desk, lanes) {}
@@ -81,6 +83,7 @@ fn play_rounds(alloc: Global, desk: &mut Desk, lanes: &mut Vec<Lane>)
 /// done. A turn of a lane is all its pending work and then its next step; a turn of a lane that is done passes. It always
 /// returns and is never refused: where memory is wanting, the lanes' results say so. It costs the work and the steps of all
 /// lanes, and a constant more for each turn.
+#[tactic(auto, using(crate::proofs::New::on_at_start, crate::proofs::Plays::all_done, crate::proofs::Plays::all_followed))]
 pub fn play(alloc: Global, desk: Desk, lanes: Vec<Lane>, schedule: &Numbers) -> Played
     requires desk { desk.journal ≡ [] }
     requires lanes { lanes.items ≡ all_new desk.loaded }

@@ -22,7 +22,7 @@ pub struct Whole {
 
 /// Plays what was loaded, by the script's schedule. The results are right for the journal, which follows the schedule. `Memory`
 /// comes where there is none for the desk, the lanes or the list of their results; where it is wanting later, steps are refused
-/// or zones are `Memory`.
+/// or zones are `Memory`. It costs the checks of all zones, and then the work and the steps of all lanes.
 pub fn play_script(alloc: Global, loaded: &Arc<Loaded>) -> Result<Whole, Memory>
     ensures right { IfOk result (λ whole. IsRight (arc_value loaded.now) whole.journal.entries whole.results) }
     ensures follows { IfOk result (λ whole. Follows (arc_value loaded.now) whole.journal.entries whole.results) }
