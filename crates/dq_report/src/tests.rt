@@ -1,7 +1,7 @@
 // Every form of line, against the format's table.
 ghost use Rattle.dq_journal.specs.Journals.{IsEntry};
 
-use crate::{WriteFault, write};
+use crate::{WriteFault, are_well_formed, report_tells_all, write};
 use dq_base::{Cell, Cells, Invalid, Kept, List, Memory, Numbers64, Ratio, Table, Text};
 use dq_journal::{
     Cause, Entry, Journal, LaneResults, Meets, Met, StepResult, ZoneResult, ZoneResults,
@@ -271,6 +271,23 @@ fn results_are_told(rt: HostRuntime) -> Result<(), Fail> {
     let wrote = write(alloc, &Journal::new(alloc), &results, &mut sink);
     assert!(rt; wrote.is_ok());
     assert_eq!(rt; sink.bytes(), RESULTS);
+    Ok(())
+}
+
+#[test]
+fn law_and_its_condition_return(rt: HostRuntime) -> Result<(), Fail> {
+    let alloc = rt.alloc();
+    let mut journal = Journal::new(alloc);
+    journal.reserve(2)?;
+    journal.push(give(true));
+    journal.push(take(Some(5)));
+    let mut results = List::new(alloc);
+    results.push(first_lane(&rt, alloc)?)?;
+    results.push(second_lane(alloc)?)?;
+    are_well_formed(&journal, &results);
+    report_tells_all();
+    assert_eq!(rt; journal.len(), 2);
+    assert_eq!(rt; results.len(), 2);
     Ok(())
 }
 

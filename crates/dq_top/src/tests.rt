@@ -514,8 +514,9 @@ fn with_filters(rt: &impl Abort, alloc: Global, count: u32) -> String {
     changed(rt, alloc, "\"by\"", more.as_str())
 }
 
-/// A fault is told by this line.
-fn check_told(rt: &impl Abort, alloc: Global, fault: &Fault, line: &str) {
+/// A fault has this status, and is told by this line.
+fn check_told(rt: &impl Abort, alloc: Global, fault: &Fault, status: u8, line: &str) {
+    assert_eq!(rt; fault.status(), status, "{line}");
     let told = tell(alloc, fault).ok().expect(rt, "memory");
     assert_eq!(rt; told.bytes(), line.as_bytes(), "{line}");
 }
@@ -523,7 +524,7 @@ fn check_told(rt: &impl Abort, alloc: Global, fault: &Fault, line: &str) {
 /// The run didn't begin, with this status and line.
 fn check_refused(rt: &impl Abort, alloc: Global, outcome: &Outcome, status: u8, line: &str) {
     let fault = outcome.told.as_ref().expect(rt, "a fault");
-    check_told(rt, alloc, fault, line);
+    check_told(rt, alloc, fault, status, line);
     assert_eq!(rt; outcome.status, status, "{line}");
     assert!(rt; outcome.loaded.is_none(), "{line}");
     assert_eq!(rt; outcome.journal.len(), 0, "{line}");
@@ -590,7 +591,7 @@ fn check_unwritten(rt: &impl Abort, alloc: Global, sink: &mut MemSink, want: &[u
     let given = words(rt, alloc, &["rehearse", "row.json"]);
     let outcome = rehearse(alloc, &given, &mut folder, sink);
     let fault = outcome.told.as_ref().expect(rt, "a fault");
-    check_told(rt, alloc, fault, "dashboards: cannot write");
+    check_told(rt, alloc, fault, 5, "dashboards: cannot write");
     assert_eq!(rt; outcome.status, 5);
     assert_eq!(rt; sink.bytes(), want);
 }
@@ -729,5 +730,11 @@ fn report_is_unwritten(rt: HostRuntime) {
 
 #[test]
 fn want_of_memory_is_told(rt: HostRuntime) {
-    check_told(&rt, rt.alloc(), &Fault::Memory, "dashboards: out of memory");
+    check_told(
+        &rt,
+        rt.alloc(),
+        &Fault::Memory,
+        6,
+        "dashboards: out of memory",
+    );
 }
