@@ -2,8 +2,8 @@
 //!
 //! The definitions stand in `specs/`: the order of values and cells (`Orders`), which rows a query keeps (`Filters`), its
 //! answer (`Answers`), which queries are valid (`Validity`), the canonical form (`Canonical`), which answers an answer can
-//! be computed from (`Covering`), how a batch is split and fused (`Batches`), and the limits (`Limits`). They filter, fold
-//! and sort plain lists, and know nothing of how the program does it.
+//! be computed from (`Covering`), how a batch is split and fused (`Batches`), how texts are spelled (`Spelling`), and the
+//! limits (`Limits`). They filter, fold and sort plain lists, and know nothing of how the program does it.
 //!
 //! The layer above may rely on this: every list type is seen as the list of its items, `compare_values` and
 //! `compare_cells` are total orders, and a `Ratio` is within its bounds.
@@ -24,6 +24,7 @@ mod ratio;
 mod schema;
 mod script;
 mod sets;
+mod spelling;
 mod value;
 
 pub use canon::{Canon, Canons, Role};
@@ -41,6 +42,7 @@ pub use ratio::Ratio;
 pub use schema::{Schema, Schemas, Sort, Sorts};
 pub use script::{Fails, FailsList, How, LaneSteps, Script, Step, Steps};
 pub use sets::{place_of, put};
+pub use spelling::{is_plain, put_labelled, put_number, put_signed, put_spelled};
 pub use value::{Value, Values};
 
 #[cfg(test)]

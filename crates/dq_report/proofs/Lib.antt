@@ -1,10 +1,8 @@
 pub mod Joined
-pub mod Reached
 pub mod Told
 pub mod ToldCells
 pub mod ToldEntries
 pub mod ToldNumbers
 pub mod ToldResults
-pub mod ToldTexts
 pub mod ToldWhole
 pub mod ToldWords

@@ -6,11 +6,16 @@ use Rattle.std.proofs.lemmas.List.{append_cancel_left}
 use Rattle.dq_base.specs.Ratios.{Fraction, count_of}
 use Rattle.dq_base.specs.declared.cell.Cell.{Cell}
 use Rattle.dq_base.specs.declared.cell.Cell.TheVariants.{Null, Whole, Word, Ratio}
-use Rattle.dq_report.specs.Report.{Bytes, ratio_text, cell_text, spaced_cell, cells_text, row_text, table_text}
-use Rattle.dq_report.specs.Told.{Fits, FitsWhole, FitsCell, FitsTable}
-use Rattle.dq_report.proofs.Told.{first, Anything, Ends, EndsLine, Tells, Goes, lead, trail, both, counted, until, goes_on, stops_at_end, ends_at_line}
-use Rattle.dq_report.proofs.ToldNumbers.{number_told, signed_told, signed_first, ratio_same, IsSignOrDigit}
-use Rattle.dq_report.proofs.ToldTexts.{spelled_told}
+use Rattle.dq_base.specs.Spelling.{Bytes}
+use Rattle.dq_report.specs.Report.{ratio_text, cell_text, spaced_cell, cells_text, row_text, table_text}
+use Rattle.dq_base.specs.Sizes.{Fits, FitsWhole}
+use Rattle.dq_report.specs.Told.{FitsCell, FitsTable}
+use Rattle.dq_base.specs.Rests.{first, Anything}
+use Rattle.dq_base.proofs.Told.{Tells, Goes, lead, trail, both, counted, until, goes_on}
+use Rattle.dq_report.proofs.Told.{Ends, EndsLine, stops_at_end, ends_at_line}
+use Rattle.dq_base.proofs.ToldNumbers.{number_told, signed_told, signed_first, IsSignOrDigit}
+use Rattle.dq_report.proofs.ToldNumbers.{ratio_same}
+use Rattle.dq_base.proofs.ToldTexts.{spelled_told}
 
 -- a whole number's text begins no other text
 begins : (z : ℤ) (r t : Bytes) → FitsWhole z → signed_decimal z ++ r ≡ t → IsSignOrDigit (first t)

@@ -10,10 +10,14 @@ use Rattle.dq_journal.specs.declared.entry.Cause.{Cause}
 use Rattle.dq_journal.specs.declared.entry.Cause.TheVariants as cause
 use Rattle.dq_journal.specs.declared.entry.Entry.{Entry}
 use Rattle.dq_journal.specs.declared.entry.Entry.TheVariants.{Publish, Admit, Lease, Give, Lose, Land, Fall, Take, End}
-use Rattle.dq_report.specs.Report.{Bytes, met_text, cause_text, fresh_word, step_of_lane, flight_of_lane, linked_text, counts_text, lost_text, taken_text, land_text, entry_text}
-use Rattle.dq_report.specs.Told.{Fits, FitsMet, FitsNext, FitsEntry}
-use Rattle.dq_report.proofs.Told.{second, third, Anything, Stops, EndsLine, Tells, Goes, lead, trail, both, until, stops_at_line}
-use Rattle.dq_report.proofs.ToldNumbers.{number_told}
+use Rattle.dq_base.specs.Spelling.{Bytes}
+use Rattle.dq_report.specs.Report.{met_text, cause_text, fresh_word, step_of_lane, flight_of_lane, linked_text, counts_text, lost_text, taken_text, land_text, entry_text}
+use Rattle.dq_base.specs.Sizes.{Fits}
+use Rattle.dq_report.specs.Told.{FitsMet, FitsNext, FitsEntry}
+use Rattle.dq_base.specs.Rests.{Anything, Stops}
+use Rattle.dq_base.proofs.Told.{second, third, Tells, Goes, lead, trail, both, until}
+use Rattle.dq_report.proofs.Told.{EndsLine, stops_at_line}
+use Rattle.dq_base.proofs.ToldNumbers.{number_told}
 use Rattle.dq_report.proofs.ToldWords.{kept_told, cause_told, ran_told, fresh_told}
 
 -- what a remote query met

@@ -7,11 +7,14 @@ use Rattle.dq_journal.specs.declared.result.ZoneResult.{ZoneResult}
 use Rattle.dq_journal.specs.declared.result.ZoneResult.TheVariants as zone
 use Rattle.dq_journal.specs.declared.result.StepResult.{StepResult}
 use Rattle.dq_journal.specs.declared.result.StepResult.TheVariants as step
-use Rattle.dq_report.specs.Report.{Bytes, refusal_text, outcome_text, zone_text, zones_text, batch_text, result_text, step_text, steps_text, lane_text, lanes_text}
-use Rattle.dq_report.specs.Told.{Fits, FitsList, FitsZone, FitsResult, SameZone, SameResult}
-use Rattle.dq_report.proofs.Told.{second, Anything, Tells, lead, trail}
+use Rattle.dq_base.specs.Spelling.{Bytes}
+use Rattle.dq_report.specs.Report.{refusal_text, outcome_text, zone_text, zones_text, batch_text, result_text, step_text, steps_text, lane_text, lanes_text}
+use Rattle.dq_base.specs.Sizes.{Fits}
+use Rattle.dq_report.specs.Told.{FitsList, FitsZone, FitsResult, SameZone, SameResult}
+use Rattle.dq_base.specs.Rests.{Anything}
+use Rattle.dq_base.proofs.Told.{second, Tells, lead, trail}
 use Rattle.dq_report.proofs.ToldCells.{table_told}
-use Rattle.dq_report.proofs.ToldNumbers.{number_told}
+use Rattle.dq_base.proofs.ToldNumbers.{number_told}
 use Rattle.dq_report.proofs.ToldWords.{invalid_told}
 
 -- a word before both texts

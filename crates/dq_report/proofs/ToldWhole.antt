@@ -4,9 +4,12 @@ use Rattle.std.specs.List.{AllByRecursion}
 use Rattle.dq_journal.specs.Journals.{IsEntry, AreEntries}
 use Rattle.dq_journal.specs.declared.entry.Entry.{Entry}
 use Rattle.dq_journal.specs.declared.result.StepResult.{StepResult}
-use Rattle.dq_report.specs.Report.{Bytes, line_text, entries_text, lanes_text, head_text, report_text}
-use Rattle.dq_report.specs.Told.{Fits, FitsEntry, IsWellFormed, SameResults}
-use Rattle.dq_report.proofs.Told.{Anything, Tells, lead, trail, both}
+use Rattle.dq_base.specs.Spelling.{Bytes}
+use Rattle.dq_report.specs.Report.{line_text, entries_text, lanes_text, head_text, report_text}
+use Rattle.dq_base.specs.Sizes.{Fits}
+use Rattle.dq_report.specs.Told.{FitsEntry, IsWellFormed, SameResults}
+use Rattle.dq_base.specs.Rests.{Anything}
+use Rattle.dq_base.proofs.Told.{Tells, lead, trail, both}
 use Rattle.dq_report.proofs.ToldEntries.{entry_told}
 use Rattle.dq_report.proofs.ToldResults.{line_told, lanes_same}
 

@@ -6,8 +6,10 @@ use Rattle.dq_base.specs.declared.kept.Kept.{Kept}
 use Rattle.dq_base.specs.declared.kept.Kept.TheVariants as kept
 use Rattle.dq_journal.specs.declared.entry.Cause.{Cause}
 use Rattle.dq_journal.specs.declared.entry.Cause.TheVariants as cause
-use Rattle.dq_report.specs.Report.{Bytes, kept_word, cause_text, ran_word, fresh_word, invalid_word}
-use Rattle.dq_report.proofs.Told.{first, second, third, Anything, Tells, worded}
+use Rattle.dq_base.specs.Spelling.{Bytes}
+use Rattle.dq_report.specs.Report.{kept_word, cause_text, ran_word, fresh_word, invalid_word}
+use Rattle.dq_base.specs.Rests.{first, Anything}
+use Rattle.dq_base.proofs.Told.{second, third, Tells, worded}
 
 abbrev kept_in : Bytes → Kept
 kept_in bs = if nat_eq (first bs) 107 then kept.Kept else if nat_eq (first bs) 116 then kept.Topped else if nat_eq (first bs) 108 then kept.TooLarge else if nat_eq (first bs) 115 then kept.Stale else kept.Memory

@@ -1,9 +1,10 @@
 -- The text of a report.
-use Rattle.std.specs.Prelude.{ℕ, ◌+◌, ◌/◌, ◌%◌, Bool, true, false, ◌&&◌, not, nat_le, nat_lt, nat_eq, List, [], ◌∷◌, ◌++◌, length, Option, Some, None, if◌then◌else◌, codes}
+use Rattle.std.specs.Prelude.{ℕ, ◌+◌, Bool, true, false, List, [], ◌∷◌, ◌++◌, length, Option, Some, None, codes}
 use Rattle.std.specs.List.{flat_map}
 use Rattle.std.specs.Fmt.{decimal, signed_decimal}
 use Rattle.std.specs.Arc.{arc_value}
 use Rattle.dq_base.specs.Ratios.{Fraction, count_of}
+use Rattle.dq_base.specs.Spelling.{Bytes, spelled}
 use Rattle.dq_base.specs.declared.cell.Cell.{Cell}
 use Rattle.dq_base.specs.declared.cell.Cell.TheVariants as cell
 use Rattle.dq_base.specs.declared.invalid.Invalid.{Invalid}
@@ -20,25 +21,6 @@ use Rattle.dq_journal.specs.declared.result.ZoneResult.{ZoneResult}
 use Rattle.dq_journal.specs.declared.result.ZoneResult.TheVariants as zone
 use Rattle.dq_journal.specs.declared.result.StepResult.{StepResult}
 use Rattle.dq_journal.specs.declared.result.StepResult.TheVariants as step
-
-abbrev pub Bytes : Type 0
-Bytes = List ℕ
-
--- a byte that stands for itself: it can be shown, and is no double quote and no backslash
-abbrev pub is_plain : ℕ → Bool
-is_plain b = nat_le 32 b && not (nat_eq b 34) && not (nat_eq b 92) && not (nat_eq b 127)
-
--- a hexadecimal digit
-abbrev pub hex_digit : ℕ → ℕ
-hex_digit n = if nat_lt n 10 then 48 + n else 87 + n
-
--- a byte, or its number behind a backslash
-abbrev pub spelled_byte : ℕ → Bytes
-spelled_byte b = if is_plain b then b ∷ [] else 92 ∷ hex_digit (b / 16) ∷ hex_digit (b % 16) ∷ []
-
--- a text between double quotes
-abbrev pub spelled : Bytes → Bytes
-spelled text = 34 ∷ [] ++ flat_map spelled_byte text ++ 34 ∷ []
 
 -- a sum, a stroke, and how many were added
 abbrev pub ratio_text : Fraction → Bytes

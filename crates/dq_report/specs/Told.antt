@@ -1,8 +1,9 @@
 -- What a report tells.
-use Rattle.std.specs.Prelude.{◌≡◌, ℕ, ℤ, ◌<◌, ◌≤◌, ◌^◌, List, length, Option, Some, None, unsigned_abs}
+use Rattle.std.specs.Prelude.{◌≡◌, ℕ, List, length, Option, Some, None}
 use Rattle.std.specs.List.{AllByRecursion, AllZip}
 use Rattle.std.specs.Arc.{arc_value}
 use Rattle.dq_base.specs.Ratios.{count_of}
+use Rattle.dq_base.specs.Sizes.{Fits, FitsWhole, IsByte}
 use Rattle.dq_base.specs.declared.cell.Cell.{Cell}
 use Rattle.dq_base.specs.declared.cell.Cell.TheVariants as cell
 use Rattle.dq_journal.specs.Journals.{AreEntries}
@@ -17,17 +18,6 @@ use Rattle.dq_journal.specs.declared.result.StepResult.TheVariants as step
 use Rattle.dq_report.specs.Report.{report_text}
 
 -- what fits: the sizes that the types keep
-
--- a number that a machine word holds
-abbrev pub Fits : ℕ → Type 0
-Fits n = n < 2 ^ 64
-
--- a whole number that two machine words hold
-abbrev pub FitsWhole : ℤ → Type 0
-FitsWhole z = unsigned_abs z ≤ 2 ^ 127
-
-abbrev pub IsByte : ℕ → Type 0
-IsByte b = b < 256
 
 abbrev pub FitsCell : Cell → Type 0
 FitsCell cell.Null = Unit {0}

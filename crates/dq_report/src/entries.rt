@@ -2,8 +2,8 @@ ghost use Rattle.std.specs.List.{flat_map};
 ghost use Rattle.std.specs.Prelude.{◌≡◌, ◌++◌, OnOk};
 ghost use Rattle.dq_report.specs.Report as form;
 
-use crate::texts::{put_end, put_labelled, put_number};
-use dq_base::{Kept, Memory, Text};
+use crate::texts::put_end;
+use dq_base::{Kept, Memory, Text, put_labelled, put_number};
 use dq_journal::{Cause, Entry, Met};
 
 fn put_met(text: &mut Text, met: Met) -> Result<(), Memory>

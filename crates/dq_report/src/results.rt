@@ -2,8 +2,8 @@ ghost use Rattle.std.specs.Prelude.{◌≡◌, ◌++◌, OnOk};
 ghost use Rattle.dq_report.specs.Report as form;
 
 use crate::rows::put_table;
-use crate::texts::{put_end, put_labelled};
-use dq_base::{Invalid, Memory, Text};
+use crate::texts::put_end;
+use dq_base::{Invalid, Memory, Text, put_labelled};
 use dq_journal::{LaneResults, StepResult, ZoneResult, ZoneResults};
 
 fn put_invalid(text: &mut Text, reason: Invalid) -> Result<(), Memory>

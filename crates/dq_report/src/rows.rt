@@ -2,8 +2,10 @@ ghost use Rattle.std.specs.List.{flat_map};
 ghost use Rattle.std.specs.Prelude.{◌≡◌, ◌++◌, OnOk};
 ghost use Rattle.dq_report.specs.Report as form;
 
-use crate::texts::{put_end, put_labelled, put_number, put_signed, put_spelled};
-use dq_base::{Cell, Cells, Memory, Ratio, Table, Text};
+use crate::texts::put_end;
+use dq_base::{
+    Cell, Cells, Memory, Ratio, Table, Text, put_labelled, put_number, put_signed, put_spelled,
+};
 
 fn put_ratio(text: &mut Text, ratio: &Ratio) -> Result<(), Memory>
     ensures { OnOk result (text.new ≡ text.old ++ form.ratio_text ratio.now) }

@@ -1,5 +1,6 @@
 ghost use Rattle.std.specs.List.{AllByRecursion};
-ghost use Rattle.dq_report.specs.Told.{IsByte, FitsMet, FitsNext, FitsEntry, FitsCell, FitsList, FitsTable, FitsZone, FitsResult, IsWellFormed};
+ghost use Rattle.dq_base.specs.Sizes.{IsByte};
+ghost use Rattle.dq_report.specs.Told.{FitsMet, FitsNext, FitsEntry, FitsCell, FitsList, FitsTable, FitsZone, FitsResult, IsWellFormed};
 
 use dq_base::{Cell, Cells, Table};
 use dq_journal::{

@@ -6,8 +6,8 @@ ghost use Rattle.dq_report.specs.Faults.{CountsFaults, FaultOf};
 
 use crate::entries::put_entries;
 use crate::results::put_lanes;
-use crate::texts::{put_end, put_labelled};
-use dq_base::{Memory, Text};
+use crate::texts::put_end;
+use dq_base::{Memory, Text, put_labelled};
 use dq_journal::{Journal, LaneResultsList};
 use dq_outside::{Sink, SinkFault, write_all};
 use std::alloc::Global;

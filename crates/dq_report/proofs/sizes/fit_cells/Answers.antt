@@ -1,5 +1,5 @@
 use Rattle.dq_report.specs.Told.{FitsCell}
-use Rattle.dq_report.proofs.Reached.{reached_item, reached_all}
+use Rattle.dq_base.proofs.Reached.{reached_item, reached_all}
 use Rattle.dq_report.proofs.sizes.fit_cells.Goals as goal
 
 pub loop-cell-preserved : goal.loop-cell-preserved

@@ -1,5 +1,5 @@
 use Rattle.dq_report.specs.Told.{FitsEntry}
-use Rattle.dq_report.proofs.Reached.{reached_item, reached_all}
+use Rattle.dq_base.proofs.Reached.{reached_item, reached_all}
 use Rattle.dq_report.proofs.sizes.fit_entries.Goals as goal
 
 pub loop-entry-preserved : goal.loop-entry-preserved

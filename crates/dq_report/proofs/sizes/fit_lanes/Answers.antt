@@ -1,5 +1,5 @@
 use Rattle.dq_report.specs.Told.{FitsList, FitsResult}
-use Rattle.dq_report.proofs.Reached.{reached_item, reached_all}
+use Rattle.dq_base.proofs.Reached.{reached_item, reached_all}
 use Rattle.dq_report.proofs.sizes.fit_lanes.Goals as goal
 
 pub loop-results-preserved : goal.loop-results-preserved

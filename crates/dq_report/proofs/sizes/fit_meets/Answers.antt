@@ -1,5 +1,5 @@
 use Rattle.dq_report.specs.Told.{FitsMet}
-use Rattle.dq_report.proofs.Reached.{reached_more, reached_all}
+use Rattle.dq_base.proofs.Reached.{reached_more, reached_all}
 use Rattle.dq_report.proofs.sizes.fit_meets.Goals as goal
 
 pub loop-met-preserved : goal.loop-met-preserved

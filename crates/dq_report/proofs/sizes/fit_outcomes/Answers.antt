@@ -1,5 +1,5 @@
 use Rattle.dq_report.specs.Told.{FitsZone}
-use Rattle.dq_report.proofs.Reached.{reached_item, reached_all}
+use Rattle.dq_base.proofs.Reached.{reached_item, reached_all}
 use Rattle.dq_report.proofs.sizes.fit_outcomes.Goals as goal
 
 pub loop-outcome-preserved : goal.loop-outcome-preserved

@@ -1,6 +1,6 @@
 use Rattle.std.specs.List.{AllByRecursion}
 use Rattle.dq_report.specs.Told.{FitsCell}
-use Rattle.dq_report.proofs.Reached.{reached_item, reached_all}
+use Rattle.dq_base.proofs.Reached.{reached_item, reached_all}
 use Rattle.dq_report.proofs.sizes.fit_rows.Goals as goal
 
 pub loop-row-preserved : goal.loop-row-preserved

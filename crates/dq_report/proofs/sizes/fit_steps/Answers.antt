@@ -1,5 +1,5 @@
 use Rattle.dq_report.specs.Told.{FitsResult}
-use Rattle.dq_report.proofs.Reached.{reached_item, reached_all}
+use Rattle.dq_base.proofs.Reached.{reached_item, reached_all}
 use Rattle.dq_report.proofs.sizes.fit_steps.Goals as goal
 
 pub loop-done-preserved : goal.loop-done-preserved
