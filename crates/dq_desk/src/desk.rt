@@ -117,8 +117,8 @@ impl Desk {
     }
 
     /// A publish step: its file's rows come in place of those that stand of its source, or behind them. Answers the place of
-    /// its entry, from 1. Rows are shared, not copied: the cost is linear in the number of segments that stand of the source,
-    /// and in that of the script's steps. An `Err` leaves the desk as it was.
+    /// its entry, from 1. Rows are shared, not copied: the cost is linear in the number of segments that stand of the source. An
+    /// `Err` leaves the desk as it was.
     pub fn publish(&mut self, alloc: Global, lane: u32, step: u32) -> Result<u64, Memory>
         requires { MayPublish self.old.loaded (after self.old.loaded self.old.journal) lane step }
         ensures entry { OnOk result (self.new.journal ≡ self.old.journal ++ Entry.Publish lane step ∷ []) }
