@@ -10,10 +10,10 @@ ghost use Rattle.dq_desk.specs.Publishing.{MayPublish};
 ghost use Rattle.dq_desk.specs.State.{IsFree};
 ghost use Rattle.dq_desk.specs.Stood.{AreStood, AreOf, HaveSources};
 
-use crate::prepared::{CanonOwners, Prepared};
+use crate::prepared::Prepared;
 use crate::refresh::{Refresh, refresh_by_step};
 use crate::stood::{Stood, Stoods};
-use dq_base::{Canon, Duplicate, List, Memory, Schemas};
+use dq_base::{Canon, Canons, Duplicate, List, Memory, Schemas};
 use dq_extract::{Extract, Loaded};
 use dq_journal::{Entry, Journal};
 use std::alloc::Global;
@@ -77,9 +77,9 @@ fn stood_of(stands: &[Stood], canon: &Canon) -> Result<Stood, Memory>
 }
 
 // What stands of the queries' sources, in order.
-fn all_stood(alloc: Global, stands: &[Stood], canons: &CanonOwners) -> Result<Stoods, Memory>
-    requires { HaveSources (length stands.now) (map arc_value canons.now) }
-    ensures { IfOk result (λ stood. AreOf stands.now (map arc_value canons.now) stood) }
+fn all_stood(alloc: Global, stands: &[Stood], canons: &Canons) -> Result<Stoods, Memory>
+    requires { HaveSources (length stands.now) canons.now }
+    ensures { IfOk result (λ stood. AreOf stands.now canons.now stood) }
 {
     let mut stood = List::new(alloc);
     for canon in canons.as_slice() {
