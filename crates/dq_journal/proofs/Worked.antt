@@ -12,10 +12,12 @@ use Rattle.dq_base.specs.declared.query.Measure.{Measure}
 use Rattle.dq_base.specs.declared.query.Measure.TheVariants.{Sum, Count}
 use Rattle.dq_base.specs.declared.query.Query.{Query}
 use Rattle.dq_base.specs.declared.script.Blend.{Blend}
+use Rattle.dq_base.specs.declared.bound.Bound.TheVariants.{Entries}
+use Rattle.dq_base.specs.declared.script.Script.{Script}
 use Rattle.dq_base.specs.declared.script.How.TheVariants.{Replace}
 use Rattle.dq_base.specs.declared.script.Step.{Step}
 use Rattle.dq_base.specs.declared.script.Step.TheVariants.{Publish, Batch}
-use Rattle.dq_journal.specs.Shown.{AreLanesShown, blend_at}
+use Rattle.dq_journal.specs.Shown.{AreLanesShown, joint_at}
 use Rattle.dq_journal.specs.declared.result.StepResult.{StepResult}
 use Rattle.dq_journal.specs.declared.result.StepResult.TheVariants.{Published, Admitted, Unadmitted}
 use Rattle.dq_journal.specs.declared.result.ZoneResult.TheVariants as outcome
@@ -47,6 +49,19 @@ steps =
 abbrev blend : ℕ → Blend
 blend step = record { lane = 1; step = step; zone = 1; links = 1 ∷ [] }
 
+abbrev script : Script
+script = record {
+  names = [];
+  schemas = [];
+  literal = Entries 1;
+  clever = Entries 1;
+  lanes = steps ∷ [];
+  schedule = [];
+  fails = [];
+  sessions = [];
+  blends = blend 2 ∷ blend 3 ∷ blend 4 ∷ [];
+}
+
 abbrev sums : List (List Cell)
 sums = (east ∷ whole 15 ∷ []) ∷ (west ∷ whole 7 ∷ []) ∷ []
 
@@ -58,7 +73,7 @@ blended = (east ∷ whole 15 ∷ cell.Null ∷ []) ∷ (west ∷ whole 7 ∷ who
 
 -- two answers are blended; a refused zone stands for its blend, as does one of a refused batch; a step without a blend stays
 pub a_lane_is_shown : (t u both same : Arc (List (List Cell)) Global) (reason : Invalid) → arc_value t ≡ sums → arc_value u ≡ counts → arc_value both ≡ blended → arc_value same ≡ sums
-    → AreLanesShown (blend_at (blend 2 ∷ blend 3 ∷ blend 4 ∷ [])) 1 (steps ∷ [])
+    → AreLanesShown (joint_at script) 1
         ((Published 1 ∷ Admitted 2 (outcome.Rows t ∷ outcome.Rows u ∷ []) ∷ Admitted 3 (outcome.Rows t ∷ outcome.Invalid reason ∷ []) ∷ Unadmitted (outcome.Memory ∷ outcome.Memory ∷ []) ∷ Admitted 4 (outcome.Rows t ∷ []) ∷ []) ∷ [])
         ((Published 1 ∷ Admitted 2 (outcome.Rows both ∷ []) ∷ Admitted 3 (outcome.Invalid reason ∷ []) ∷ Unadmitted (outcome.Memory ∷ []) ∷ Admitted 4 (outcome.Rows same ∷ []) ∷ []) ∷ [])
 a_lane_is_shown t u both same reason a b c d =
