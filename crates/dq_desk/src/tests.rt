@@ -44,11 +44,7 @@ fn three_columns(rt: &impl Abort, alloc: Global) -> Schema
         word(rt, alloc, b"amount"),
     ];
     let sorts = [Sort::Word, Sort::Whole, Sort::Whole];
-    let schema = Schema::new(
-        alloc,
-        list_of(rt, alloc, names),
-        list_of(rt, alloc, sorts),
-    );
+    let schema = Schema::new(alloc, list_of(rt, alloc, names), list_of(rt, alloc, sorts));
     schema.ok().expect(rt, "memory")
 }
 
@@ -183,8 +179,16 @@ fn prepared(rt: &impl Abort, alloc: Global) -> Prepared
     ensures { result ≡ worked_preparation }
 {
     let mut canons = Canons::new(alloc);
-    assert!(rt; canons.push(owner(rt, alloc, count_of(rt, alloc, 0))).is_ok());
-    assert!(rt; canons.push(owner(rt, alloc, count_of(rt, alloc, 1))).is_ok());
+    assert!(rt;
+        canons
+            .push(owner(rt, alloc, count_of(rt, alloc, 0)))
+            .is_ok()
+    );
+    assert!(rt;
+        canons
+            .push(owner(rt, alloc, count_of(rt, alloc, 1)))
+            .is_ok()
+    );
     Prepared::new(list_of(rt, alloc, [1, 3]), canons)
 }
 

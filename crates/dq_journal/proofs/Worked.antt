@@ -74,8 +74,8 @@ blended = (east ∷ whole 15 ∷ cell.Null ∷ []) ∷ (west ∷ whole 7 ∷ who
 -- two answers are blended; a refused zone stands for its blend, as does one of a refused batch; a step without a blend stays
 pub a_lane_is_shown : (t u both same : Arc (List (List Cell)) Global) (reason : Invalid) → arc_value t ≡ sums → arc_value u ≡ counts → arc_value both ≡ blended → arc_value same ≡ sums
     → AreLanesShown (joint_at script) 1
-        ((Published 1 ∷ Admitted 2 (outcome.Rows t ∷ outcome.Rows u ∷ []) ∷ Admitted 3 (outcome.Rows t ∷ outcome.Invalid reason ∷ []) ∷ Unadmitted (outcome.Memory ∷ outcome.Memory ∷ []) ∷ Admitted 4 (outcome.Rows t ∷ []) ∷ []) ∷ [])
-        ((Published 1 ∷ Admitted 2 (outcome.Rows both ∷ []) ∷ Admitted 3 (outcome.Invalid reason ∷ []) ∷ Unadmitted (outcome.Memory ∷ []) ∷ Admitted 4 (outcome.Rows same ∷ []) ∷ []) ∷ [])
+    ((Published 1 ∷ Admitted 2 (outcome.Rows t ∷ outcome.Rows u ∷ []) ∷ Admitted 3 (outcome.Rows t ∷ outcome.Invalid reason ∷ []) ∷ Unadmitted (outcome.Memory ∷ outcome.Memory ∷ []) ∷ Admitted 4 (outcome.Rows t ∷ []) ∷ []) ∷ [])
+    ((Published 1 ∷ Admitted 2 (outcome.Rows both ∷ []) ∷ Admitted 3 (outcome.Invalid reason ∷ []) ∷ Unadmitted (outcome.Memory ∷ []) ∷ Admitted 4 (outcome.Rows same ∷ []) ∷ []) ∷ [])
 a_lane_is_shown t u both same reason a b c d =
     let is : blend_of (arc_value t) (arc_value u) (1 ∷ []) 1 ≡ blended = ap (λ x. blend_of x (arc_value u) (1 ∷ []) 1) a ∙ ap (λ y. blend_of sums y (1 ∷ []) 1) b in
     ((refl, ((refl, (c ∙ sym is, refl)), ((refl, (refl, refl)), ((tt, refl), ((refl, (d ∙ sym a, refl)), refl))))), refl)

@@ -10,8 +10,8 @@ ghost use Rattle.dq_lane.specs.Worked.{ArePlaying, DoneBy, FitsTest, appended_la
 
 use crate::{Lane, Stepped};
 use dq_base::{
-    Bound, Cell, Cells, Dim, Fails, How, LaneSteps, List, Measure, Query, Schema, Script, Sort, Step, Table,
-    Text,
+    Bound, Cell, Cells, Dim, Fails, How, LaneSteps, List, Measure, Query, Schema, Script, Sort,
+    Step, Table, Text,
 };
 use dq_desk::Desk;
 use dq_extract::{Loaded, Segment, SegmentList, load};
@@ -47,11 +47,7 @@ fn three_columns(rt: &impl Abort, alloc: Global) -> Schema
         word(rt, alloc, b"amount"),
     ];
     let sorts = [Sort::Word, Sort::Whole, Sort::Whole];
-    let schema = Schema::new(
-        alloc,
-        list_of(rt, alloc, names),
-        list_of(rt, alloc, sorts),
-    );
+    let schema = Schema::new(alloc, list_of(rt, alloc, names), list_of(rt, alloc, sorts));
     schema.ok().expect(rt, "memory")
 }
 

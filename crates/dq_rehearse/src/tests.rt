@@ -10,8 +10,8 @@ ghost use Rattle.dq_lane.specs.Worked.{FitsTest, appended_lanes, regions_of, rep
 
 use crate::{Whole, play_script};
 use dq_base::{
-    Bound, Cell, Cells, Dim, Fails, How, LaneSteps, List, Measure, Numbers, Query, Schema, Script, Sort, Step,
-    Table, Text,
+    Bound, Cell, Cells, Dim, Fails, How, LaneSteps, List, Measure, Numbers, Query, Schema, Script,
+    Sort, Step, Table, Text,
 };
 use dq_extract::{Loaded, Segment, SegmentList, load};
 use dq_journal::{Entry, Journal, LaneResultsList, StepResult, ZoneResult, ZoneResults};
@@ -46,11 +46,7 @@ fn three_columns(rt: &impl Abort, alloc: Global) -> Schema
         word(rt, alloc, b"amount"),
     ];
     let sorts = [Sort::Word, Sort::Whole, Sort::Whole];
-    let schema = Schema::new(
-        alloc,
-        list_of(rt, alloc, names),
-        list_of(rt, alloc, sorts),
-    );
+    let schema = Schema::new(alloc, list_of(rt, alloc, names), list_of(rt, alloc, sorts));
     schema.ok().expect(rt, "memory")
 }
 
