@@ -8,8 +8,8 @@ ghost use Rattle.dq_base.specs.Versions.{cells_of};
 use crate::evaluate;
 use crate::plain::evaluate_plainly;
 use dq_base::{
-    Canon, Cell, Cells, Dim, Dims, Duplicate, List, Measure, OrderKey, OrderKeys, Predicate, Predicates,
-    Query, Schema, Sort, Sorts, Table, Test, Text, Texts,
+    Canon, Cell, Cells, Dim, Dims, Duplicate, List, Measure, OrderKey, OrderKeys, Predicate,
+    Predicates, Query, Schema, Sort, Sorts, Table, Test, Text, Texts,
 };
 use dq_extract::{Extract, Segment, load};
 use std::alloc::Global;
