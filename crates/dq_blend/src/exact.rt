@@ -143,6 +143,7 @@ pub fn first_cells(alloc: Global, row: &Cells, count: u64) -> Result<Key, Memory
 }
 
 /// A copy of the cell at a place, which counts from 1.
+#[tactic(auto, using(crate::proofs::Steps::got_steps))]
 fn copy_at(alloc: Global, row: &Cells, place: u32) -> Result<Cell, Memory>
     ensures { IfOk result (λ cell. cell ≡ cell_at row.now place) }
 {
