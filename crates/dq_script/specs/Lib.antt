@@ -1,15 +1,4 @@
 pub mod Arrays
-pub mod Columns
-pub mod Drafts
-pub mod Filters
-pub mod Lanes
 pub mod Objects
-pub mod Parts
+pub mod Places
 pub mod Readings
-pub mod Reasons
-pub mod Scripts
-pub mod Small
-pub mod Steps
-pub mod Tests
-pub mod Wanted
-pub mod Zones
