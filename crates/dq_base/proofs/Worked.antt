@@ -1,10 +1,14 @@
 -- Worked examples of the definitions, each by computing.
-use Rattle.std.proofs.Common.{◌≡◌, ℕ, pos, true, false, List, [], ◌∷◌, Some, None, refl, replicate}
+use Rattle.std.proofs.Common.{◌≡◌, ℕ, pos, true, false, List, [], ◌∷◌, Some, None, refl, replicate, map, negsuc}
 use Rattle.dq_base.specs.Answers.{answer}
 use Rattle.dq_base.specs.Batches.{roles, groups}
+use Rattle.dq_base.specs.Blends.{blend_of}
 use Rattle.dq_base.specs.Canonical.{canonical}
 use Rattle.dq_base.specs.Covering.{covers}
+use Rattle.dq_base.specs.Dims.{Dimension, plain, band_of}
 use Rattle.dq_base.specs.Headings.{Heading}
+use Rattle.dq_base.specs.Scripts.{blend_fits}
+use Rattle.dq_base.specs.Sessions.{filter_items, shielded_query, visible}
 use Rattle.dq_base.specs.Validity.{invalid_by}
 use Rattle.dq_base.specs.declared.value.Value.{Value}
 use Rattle.dq_base.specs.declared.value.Value.TheVariants as value
@@ -50,7 +54,7 @@ abbrev heading : Heading
 heading = record { names = []; sorts = sort.Word ∷ sort.Whole ∷ sort.Whole ∷ [] }
 
 abbrev zone : List Predicate → List ℕ → List Measure → Query
-zone filters dims measures = record { source = 0; filters = filters; dims = dims; measures = measures; order = []; top = None }
+zone filters dims measures = record { source = 0; filters = filters; dims = map plain dims; measures = measures; order = []; top = None }
 
 -- sum of amount and rows by region
 pub sums_and_rows_by_region : answer (zone [] (0 ∷ []) (Sum 2 ∷ Rows ∷ [])) sales ≡ (cell.Null ∷ whole 4 ∷ whole 1 ∷ []) ∷ (east_cell ∷ whole 15 ∷ whole 2 ∷ []) ∷ (west_cell ∷ whole 7 ∷ whole 2 ∷ []) ∷ []
@@ -99,7 +103,7 @@ pub averages_by_region_and_year : answer (zone [] (0 ∷ 1 ∷ []) (Avg 2 ∷ []
 averages_by_region_and_year = refl
 
 abbrev top_one : Measure → Query
-top_one m = record { source = 0; filters = []; dims = 0 ∷ []; measures = m ∷ []; order = record { place = 2; down = true } ∷ []; top = Some 1 }
+top_one m = record { source = 0; filters = []; dims = plain 0 ∷ []; measures = m ∷ []; order = record { place = 2; down = true } ∷ []; top = Some 1 }
 
 pub ties_go_by_key : answer (top_one Rows) sales ≡ (east_cell ∷ whole 2 ∷ []) ∷ []
 ties_go_by_key = refl
@@ -174,7 +178,7 @@ one_group_of_two = refl
 pub maxima_by_region : answer (amount_by_region (Max 2)) sales ≡ (cell.Null ∷ whole 4 ∷ []) ∷ (east_cell ∷ whole 10 ∷ []) ∷ (west_cell ∷ whole 7 ∷ []) ∷ []
 maxima_by_region = refl
 
-pub order_place_missing : invalid_by (heading ∷ []) (record { source = 0; filters = []; dims = 0 ∷ []; measures = Rows ∷ []; order = record { place = 3; down = true } ∷ []; top = None }) ≡ Some invalid.OrderKey
+pub order_place_missing : invalid_by (heading ∷ []) (record { source = 0; filters = []; dims = plain 0 ∷ []; measures = Rows ∷ []; order = record { place = 3; down = true } ∷ []; top = None }) ≡ Some invalid.OrderKey
 order_place_missing = refl
 
 pub seventeen_predicates : invalid_by (heading ∷ []) (zone (replicate 17 (record { column = 1; test = Between None None })) [] (Rows ∷ [])) ≡ Some invalid.TooLong
@@ -186,3 +190,98 @@ sixteen_predicates = refl
 -- each of two alike covers the other: the first stands, the second is local to it
 pub alike_roles : roles (cube ∷ cube ∷ []) ≡ Remote ∷ Local 0 ∷ []
 alike_roles = refl
+
+-- bands
+
+abbrev band : ℕ → ℕ → Dimension
+band column beyond = record { column = column; beyond = beyond }
+
+abbrev by_bands : List Dimension → List Measure → Query
+by_bands dims measures = record { source = 0; filters = []; dims = dims; measures = measures; order = []; top = None }
+
+abbrev fives : Query
+fives = by_bands (band 2 4 ∷ []) (Rows ∷ [])
+
+abbrev tens : Query
+tens = by_bands (band 2 9 ∷ []) (Rows ∷ [])
+
+abbrev fours : Query
+fours = by_bands (band 2 3 ∷ []) (Rows ∷ [])
+
+pub amounts_by_fives : answer fives sales ≡ (cell.Null ∷ whole 1 ∷ []) ∷ (whole 0 ∷ whole 1 ∷ []) ∷ (whole 1 ∷ whole 2 ∷ []) ∷ (whole 2 ∷ whole 1 ∷ []) ∷ []
+amounts_by_fives = refl
+
+pub amounts_by_tens : answer tens sales ≡ (cell.Null ∷ whole 1 ∷ []) ∷ (whole 0 ∷ whole 3 ∷ []) ∷ (whole 1 ∷ whole 1 ∷ []) ∷ []
+amounts_by_tens = refl
+
+-- bands round down, not toward zero
+pub band_below_zero : band_of 10 (negsuc 0) ≡ negsuc 0
+band_below_zero = refl
+
+pub bands_below_zero : band_of 10 (negsuc 9) ≡ negsuc 0
+bands_below_zero = refl
+
+pub next_band_below_zero : band_of 10 (negsuc 10) ≡ negsuc 1
+next_band_below_zero = refl
+
+pub fives_make_tens : roles (fives ∷ tens ∷ []) ≡ Remote ∷ Local 0 ∷ []
+fives_make_tens = refl
+
+pub fours_make_no_tens : roles (fours ∷ tens ∷ []) ≡ Remote ∷ Remote ∷ []
+fours_make_no_tens = refl
+
+-- a band gives no single values: no other dimension's, no least one, and no predicate can be tested on it
+pub bands_count_no_values : covers fives (by_bands [] (Distinct 2 ∷ [])) ≡ false
+bands_count_no_values = refl
+
+pub bands_hide_filtered_values : covers fives (zone (record { column = 2; test = Between (Some (pos 1)) None } ∷ []) [] (Rows ∷ [])) ≡ false
+bands_hide_filtered_values = refl
+
+pub values_make_bands : covers (by_bands (plain 2 ∷ []) (Rows ∷ [])) tens ≡ true
+values_make_bands = refl
+
+pub bands_of_other_widths_dont_fuse : groups (fours ∷ tens ∷ []) ≡ record { key = fours; members = 0 ∷ [] } ∷ record { key = tens; members = 1 ∷ [] } ∷ []
+bands_of_other_widths_dont_fuse = refl
+
+pub band_of_a_text : invalid_by (heading ∷ []) (by_bands (band 0 1 ∷ []) (Rows ∷ [])) ≡ Some invalid.WrongSort
+band_of_a_text = refl
+
+-- a width of 1 is plain
+pub repeated_band : invalid_by (heading ∷ []) (by_bands (plain 1 ∷ band 1 0 ∷ []) (Rows ∷ [])) ≡ Some invalid.RepeatedDim
+repeated_band = refl
+
+pub bands_of_two_widths : invalid_by (heading ∷ []) (by_bands (band 1 1 ∷ band 1 0 ∷ []) (Rows ∷ [])) ≡ None
+bands_of_two_widths = refl
+
+-- sessions
+
+abbrev only_east : List Predicate
+only_east = record { column = 0; test = Among (east ∷ []) } ∷ []
+
+pub east_is_visible : visible only_east sales ≡ (east ∷ int 2020 ∷ int 10 ∷ []) ∷ (east ∷ int 2021 ∷ int 5 ∷ []) ∷ []
+east_is_visible = refl
+
+-- the session's filters stand behind the zone's, of its lane and source alone
+pub second_lane_sees_east : shielded_query (record { lane = 2; source = 0; filters = only_east } ∷ record { lane = 1; source = 0; filters = [] } ∷ []) 2 (zone (record { column = 1; test = Between None None } ∷ []) [] (Rows ∷ []))
+    ≡ zone (record { column = 1; test = Between None None } ∷ record { column = 0; test = Among (east ∷ []) } ∷ []) [] (Rows ∷ [])
+second_lane_sees_east = refl
+
+pub items_of_texts : filter_items (record { column = 0; test = Among (value.Word (replicate 33 120) ∷ value.Word [] ∷ value.Null ∷ []) } ∷ record { column = 0; test = Among [] } ∷ record { column = 1; test = Between None None } ∷ []) ≡ 6
+items_of_texts = refl
+
+-- blends
+
+abbrev rows_of_2020 : List (List Cell)
+rows_of_2020 = (east_cell ∷ whole 1 ∷ []) ∷ (west_cell ∷ whole 1 ∷ []) ∷ []
+
+abbrev sums : List (List Cell)
+sums = (cell.Null ∷ whole 4 ∷ []) ∷ (east_cell ∷ whole 15 ∷ []) ∷ (west_cell ∷ whole 7 ∷ []) ∷ []
+
+pub blended_by_region : blend_of sums rows_of_2020 (1 ∷ []) 1 ≡ (cell.Null ∷ whole 4 ∷ cell.Null ∷ []) ∷ (east_cell ∷ whole 15 ∷ whole 1 ∷ []) ∷ (west_cell ∷ whole 7 ∷ whole 1 ∷ []) ∷ []
+blended_by_region = refl
+
+pub blended_with_a_total : blend_of sums ((whole 2 ∷ []) ∷ []) [] 1 ≡ (cell.Null ∷ whole 4 ∷ whole 2 ∷ []) ∷ (east_cell ∷ whole 15 ∷ whole 2 ∷ []) ∷ (west_cell ∷ whole 7 ∷ whole 2 ∷ []) ∷ []
+blended_with_a_total = refl
+
+pub null_blends_with_null : blend_of sums ((cell.Null ∷ whole 9 ∷ []) ∷ []) (1 ∷ []) 1 ≡ (cell.Null ∷ whole 4 ∷ whole 9 ∷ []) ∷ (east_cell ∷ whole 15 ∷ cell.Null ∷ []) ∷ (west_cell ∷ whole 7 ∷ cell.Null ∷ []) ∷ []
+null_blends_with_null = refl

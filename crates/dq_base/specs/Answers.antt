@@ -5,6 +5,7 @@ use Rattle.std.specs.declared.cmp.Ordering.{Ordering}
 use Rattle.std.specs.declared.cmp.Ordering.TheVariants.{Equal}
 use Rattle.std.specs.Ordering.{is_lt, is_gt, is_eq, ordering_then, ordering_reverse}
 use Rattle.std.specs.Cmp.Lexicographic.{slice_cmp}
+use Rattle.dq_base.specs.Dims.{Dimension, banded, is_plain, width_of}
 use Rattle.dq_base.specs.Filters.{value_at, kept}
 use Rattle.dq_base.specs.Orders.{value_cmp, key_cmp, cell_cmp}
 use Rattle.dq_base.specs.Sets.{set_of, ascending}
@@ -17,12 +18,16 @@ use Rattle.dq_base.specs.declared.query.Measure.TheVariants.{Rows, Count, Sum, M
 use Rattle.dq_base.specs.declared.query.OrderKey.{OrderKey}
 use Rattle.dq_base.specs.declared.query.Query.{Query}
 
+-- the value of a dimension in a row: that of its column, or where the width is above 1 the number of its band
+abbrev pub value_in : List Value → Dimension → Value
+value_in row d = if is_plain d then value_at row d.column else banded (width_of d) (value_at row d.column)
+
 -- a row's values in the dimensions
-abbrev pub key_of : List ℕ → List Value → List Value
-key_of dims row = map (value_at row) dims
+abbrev pub key_of : List Dimension → List Value → List Value
+key_of dims row = map (value_in row) dims
 
 -- the different keys of the rows, ascending; without dimensions the one empty key, also over no rows
-abbrev pub keys_of : List ℕ → List (List Value) → List (List Value)
+abbrev pub keys_of : List Dimension → List (List Value) → List (List Value)
 keys_of [] rows = [] ∷ []
 keys_of (d ∷ dims) rows = set_of key_cmp (map (key_of (d ∷ dims)) rows)
 
@@ -30,7 +35,7 @@ abbrev pub keys : Query → List (List Value) → List (List Value)
 keys q rows = keys_of q.dims (kept q rows)
 
 -- the rows that have a key
-abbrev pub rows_with : List ℕ → List Value → List (List Value) → List (List Value)
+abbrev pub rows_with : List Dimension → List Value → List (List Value) → List (List Value)
 rows_with dims key rows = filter (λ row. is_eq (key_cmp key (key_of dims row))) rows
 
 abbrev pub is_present : Value → Bool

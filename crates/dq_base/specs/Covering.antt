@@ -1,7 +1,8 @@
 -- Which answers an answer can be computed from.
-use Rattle.std.specs.Prelude.{ℕ, ℤ, Bool, true, false, ◌||◌, ◌&&◌, not, nat_eq, int_le, List, [], ◌∷◌, Option, Some, None, is_none}
+use Rattle.std.specs.Prelude.{ℕ, ℤ, Bool, true, false, ◌||◌, ◌&&◌, not, nat_eq, ◌%◌, int_le, List, [], ◌∷◌, Option, Some, None, is_none}
 use Rattle.std.specs.List.{list_any, list_all}
 use Rattle.std.specs.Ordering.{is_eq}
+use Rattle.dq_base.specs.Dims.{Dimension, dim_eq, is_plain, width_of}
 use Rattle.dq_base.specs.Orders.{value_cmp}
 use Rattle.dq_base.specs.Filters.{lies_between}
 use Rattle.dq_base.specs.Canonical.{predicate_cmp}
@@ -64,11 +65,25 @@ measure_eq _ _ = false
 abbrev pub shows : Query → Measure → Bool
 shows q m = list_any (measure_eq m) q.measures
 
-abbrev pub groups_by : Query → ℕ → Bool
-groups_by q c = list_any (nat_eq c) q.dims
+-- each dimension stands in the other list too
+abbrev pub all_in_dims : List Dimension → List Dimension → Bool
+all_in_dims ds es = list_all (λ d. list_any (dim_eq d) es) ds
 
+-- a plain dimension is on this column
+abbrev pub groups_by : Query → ℕ → Bool
+groups_by q c = list_any (λ d. nat_eq c d.column && is_plain d) q.dims
+
+-- the bands of the one are made of whole bands of the other
+abbrev pub made_of : Dimension → Dimension → Bool
+made_of d e = nat_eq d.column e.column && nat_eq (width_of d % width_of e) 0
+
+-- some dimension of p is on the same column, and its width divides this one's
+abbrev pub makes : Query → Dimension → Bool
+makes p d = list_any (made_of d) p.dims
+
+-- the same columns with the same widths
 abbrev pub same_dims : Query → Query → Bool
-same_dims p q = list_all (groups_by q) p.dims && list_all (groups_by p) q.dims
+same_dims p q = all_in_dims p.dims q.dims && all_in_dims q.dims p.dims
 
 -- whether the answer of p has a part, for a query q
 abbrev pub gives : Query → Query → Part → Bool
@@ -103,14 +118,14 @@ order_eq a b = nat_eq a.place b.place && bool_eq a.down b.down
 
 abbrev pub query_eq : Query → Query → Bool
 query_eq p q =
-    nat_eq p.source q.source && lists_eq predicate_eq p.filters q.filters && lists_eq nat_eq p.dims q.dims
+    nat_eq p.source q.source && lists_eq predicate_eq p.filters q.filters && lists_eq dim_eq p.dims q.dims
     && lists_eq measure_eq p.measures q.measures && lists_eq order_eq p.order q.order && top_eq p.top q.top
 
 -- some predicate of q on that column leaves only values of which this one holds
 abbrev pub implied : Query → Predicate → Bool
 implied q f = list_any (λ g. nat_eq g.column f.column && within g.test f.test) q.filters
 
--- it is a predicate of p too, or on a dimension of p
+-- it is a predicate of p too, or on a plain dimension of p
 abbrev pub checkable : Query → Predicate → Bool
 checkable p g = list_any (predicate_eq g) p.filters || groups_by p g.column
 
@@ -119,7 +134,7 @@ abbrev pub covers : Query → Query → Bool
 covers p q =
     nat_eq p.source q.source
     && (is_none p.top || query_eq p q)
-    && list_all (groups_by p) q.dims
+    && list_all (makes p) q.dims
     && list_all (implied q) p.filters
     && list_all (checkable p) q.filters
     && list_all (λ m. list_all (gives p q) (needs m)) q.measures

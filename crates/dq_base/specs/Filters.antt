@@ -7,6 +7,7 @@ use Rattle.dq_base.specs.declared.value.Value.{Value}
 use Rattle.dq_base.specs.declared.value.Value.TheVariants as value
 use Rattle.dq_base.specs.declared.predicate.Test.{Test}
 use Rattle.dq_base.specs.declared.predicate.Test.TheVariants.{Among, Except, Between}
+use Rattle.dq_base.specs.declared.predicate.Predicate.{Predicate}
 use Rattle.dq_base.specs.declared.query.Query.{Query}
 
 -- the row's value in a column
@@ -34,8 +35,11 @@ holds (Except list) v = not (has value_cmp list v)
 holds (Between low high) v = lies_between low high v
 
 -- whether each predicate's test holds of the row's value in its column
+abbrev pub passes : List Predicate → List Value → Bool
+passes filters row = list_all (λ p. holds p.test (value_at row p.column)) filters
+
 abbrev pub keeps : Query → List Value → Bool
-keeps q row = list_all (λ p. holds p.test (value_at row p.column)) q.filters
+keeps q row = passes q.filters row
 
 abbrev pub kept : Query → List (List Value) → List (List Value)
 kept q rows = filter (keeps q) rows

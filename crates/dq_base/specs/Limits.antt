@@ -11,6 +11,10 @@ file_room = 67108864
 abbrev pub all_room : ℕ
 all_room = 268435456
 
+-- bytes of a report that is judged
+abbrev pub report_room : ℕ
+report_room = 268435456
+
 -- cells of all loaded rows
 abbrev pub cell_room : ℕ
 cell_room = 8388608
@@ -44,6 +48,13 @@ most_turns = 1048576
 abbrev pub most_faults : ℕ
 most_faults = 4096
 
--- entries of one cache
-abbrev pub most_kept : ℕ
-most_kept = 4096
+-- entries of a cache that is bounded by entries, and cells of one that is bounded by cells
+abbrev pub most_entries : ℕ
+most_entries = 4096
+
+abbrev pub most_bound_cells : ℕ
+most_bound_cells = 4194304
+
+-- items of one session's filters
+abbrev pub most_session_items : ℕ
+most_session_items = 256

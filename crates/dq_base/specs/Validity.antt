@@ -1,6 +1,7 @@
 -- Which queries are valid.
 use Rattle.std.specs.Prelude.{ℕ, ◌+◌, Bool, true, false, ◌||◌, ◌&&◌, not, nat_lt, nat_le, nat_eq, ◌==◌, List, [], ◌∷◌, length, slice_get, Option, Some, None, if◌then◌else◌}
 use Rattle.std.specs.List.{list_any, list_all}
+use Rattle.dq_base.specs.Dims.{Dimension, dim_eq, is_plain}
 use Rattle.dq_base.specs.Headings.{Heading}
 use Rattle.dq_base.specs.declared.value.Value.{Value}
 use Rattle.dq_base.specs.declared.value.Value.TheVariants as value
@@ -26,12 +27,12 @@ measured (Avg c) = c ∷ []
 -- a column number that isn't below the number of columns, anywhere
 abbrev pub column_missing : ℕ → Query → Bool
 column_missing n q =
-    list_any (λ p. nat_le n p.column) q.filters || list_any (nat_le n) q.dims || list_any (λ m. list_any (nat_le n) (measured m)) q.measures
+    list_any (λ p. nat_le n p.column) q.filters || list_any (λ d. nat_le n d.column) q.dims || list_any (λ m. list_any (nat_le n) (measured m)) q.measures
 
--- some item is in the list again
-abbrev pub repeats : List ℕ → Bool
+-- some dimension, with its width, is in the list again
+abbrev pub repeats : List Dimension → Bool
 repeats [] = false
-repeats (x ∷ xs) = list_any (nat_eq x) xs || repeats xs
+repeats (d ∷ ds) = list_any (dim_eq d) ds || repeats ds
 
 abbrev pub is_whole_sort : Option Sort → Bool
 is_whole_sort None = false
@@ -61,8 +62,13 @@ measure_fits sorts (Max c) = true
 measure_fits sorts (Distinct c) = true
 measure_fits sorts (Avg c) = is_whole sorts c
 
+-- only whole numbers fall into bands
+abbrev pub dim_fits : List Sort → Dimension → Bool
+dim_fits sorts d = is_plain d || is_whole sorts d.column
+
 abbrev pub sorts_fit : List Sort → Query → Bool
-sorts_fit sorts q = list_all (λ p. test_fits (is_whole sorts p.column) p.test) q.filters && list_all (measure_fits sorts) q.measures
+sorts_fit sorts q =
+    list_all (λ p. test_fits (is_whole sorts p.column) p.test) q.filters && list_all (dim_fits sorts) q.dims && list_all (measure_fits sorts) q.measures
 
 abbrev pub shows_nothing : Query → Bool
 shows_nothing q = (length q.dims + length q.measures) == 0
@@ -76,7 +82,7 @@ list_too_long (Except list) = nat_lt 100000 (length list)
 list_too_long (Between low high) = false
 
 abbrev pub too_long : Query → Bool
-too_long q = nat_lt 16 (length q.filters) || nat_lt 512 (length q.measures) || nat_lt 64 (length q.order) || list_any (λ p. list_too_long p.test) q.filters
+too_long q = nat_lt 16 (length q.filters) || nat_lt 64 (length q.dims) || nat_lt 512 (length q.measures) || nat_lt 64 (length q.order) || list_any (λ p. list_too_long p.test) q.filters
 
 -- the first reason that holds
 abbrev pub first_reason : List Sort → Query → Option Invalid

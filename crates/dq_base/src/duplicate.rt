@@ -1,12 +1,10 @@
 ghost use Rattle.std.specs.Prelude.{◌≡◌, IfOk};
 
-use crate::cell::Cell;
 use crate::list::{List, Text};
 use crate::memory::Memory;
 use crate::predicate::{Predicate, Test};
 use crate::query::{Measure, OrderKey, Query};
-use crate::ratio::Ratio;
-use crate::schema::{Schema, Sort};
+use crate::schema::Sort;
 use crate::value::Value;
 use std::alloc::Global;
 
@@ -15,12 +13,6 @@ pub trait Duplicate: Drop {
     /// An equal value. The cost is that of reading the value once.
     fn duplicate(&self, alloc: Global) -> Result<Self, Memory>
         ensures { IfOk result (λ copy. copy ≡ self.now) };
-}
-
-impl Duplicate for u8 {
-    fn duplicate(&self, _alloc: Global) -> Result<u8, Memory> {
-        Ok(*self)
-    }
 }
 
 impl Duplicate for u32 {
@@ -93,33 +85,8 @@ impl Duplicate for Query {
     }
 }
 
-impl Duplicate for Ratio {
-    fn duplicate(&self, _alloc: Global) -> Result<Ratio, Memory> {
-        Ok(self.again())
-    }
-}
-
-impl Duplicate for Cell {
-    fn duplicate(&self, alloc: Global) -> Result<Cell, Memory> {
-        match self {
-            Cell::Null => Ok(Cell::Null),
-            Cell::Whole(n) => Ok(Cell::Whole(*n)),
-            Cell::Word(text) => Ok(Cell::Word(Text::copy_of(alloc, text.bytes())?)),
-            Cell::Ratio(ratio) => Ok(Cell::Ratio(ratio.duplicate(alloc)?)),
-        }
-    }
-}
-
 impl Duplicate for Sort {
     fn duplicate(&self, _alloc: Global) -> Result<Sort, Memory> {
         Ok(*self)
-    }
-}
-
-impl Duplicate for Schema {
-    fn duplicate(&self, alloc: Global) -> Result<Schema, Memory> {
-        let names = self.names().duplicate(alloc)?;
-        let sorts = self.sorts().duplicate(alloc)?;
-        Ok(Schema::new(names, sorts))
     }
 }

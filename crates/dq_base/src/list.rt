@@ -2,6 +2,7 @@ ghost use Rattle.std.specs.Borrow.{Lends, sem};
 ghost use Rattle.std.specs.List.{insert};
 ghost use Rattle.std.specs.Option.{option_copied};
 ghost use Rattle.std.specs.Prelude.{◌≡◌, ◌<◌, ◌≤◌, [], ◌∷◌, ◌++◌, length, slice_get, slice_set, take, OnOk, OnErr, IfOk};
+ghost use Rattle.dq_base.specs.Numbered.{numbered};
 ghost use Rattle.dq_base.specs.contracts.list.List.{the_row};
 
 use crate::memory::Memory;
@@ -73,6 +74,16 @@ impl<T> List<T> {
         self.items.get(place as usize)
     }
 
+    /// The item of that number, which counts from 1, or none exactly where there is no such item.
+    pub fn numbered(&self, number: u32) -> Option<&T>
+        ensures { option_copied result ≡ numbered self.now number }
+    {
+        if number == 0 {
+            return None;
+        }
+        self.get(u64::from(number) - 1)
+    }
+
     /// The items.
     pub fn as_slice(&self) -> &[T]
         ensures { result.now ≡ self.now }
@@ -88,12 +99,12 @@ impl<T> List<T> {
     }
 
     /// Lends an item to be changed.
-    pub fn item_mut(&mut self, place: usize) -> &mut T
+    pub fn item_mut(&mut self, place: u64) -> &mut T
         requires { place < length self.old }
         ensures* lends { sem 𝓛 (Lends (the_row T.row) T.row self.entry result (λ w. slice_set self.old place w)) }
         ensures value { slice_get self.old place ≡ Some result.now }
     {
-        &mut self.items[place]
+        &mut self.items[place as usize]
     }
 }
 
@@ -108,20 +119,20 @@ impl<T: Drop> List<T> {
     }
 
     /// Puts an item in at a place, and moves those behind it. An `Err` changes nothing.
-    pub fn insert(&mut self, place: usize, item: T) -> Result<(), Memory>
+    pub fn insert(&mut self, place: u64, item: T) -> Result<(), Memory>
         requires { place ≤ length self.old }
         ensures ok { OnOk result (self.new ≡ insert self.old place item) }
         ensures err { OnErr result (self.new ≡ self.old) }
     {
-        self.items.insert(place, item)?;
+        self.items.insert(place as usize, item)?;
         Ok(())
     }
 
     /// Keeps the first items alone.
-    pub fn truncate(&mut self, count: usize)
+    pub fn truncate(&mut self, count: u64)
         ensures { self.new ≡ take count self.old }
     {
-        self.items.truncate(count);
+        self.items.truncate(count as usize);
     }
 }
 

@@ -57,7 +57,7 @@ pub fn compare_keys(a: &List<Value>, b: &List<Value>) -> Ordering
 }
 
 /// The order of tests: by kind, and then by contents, a missing bound first.
-pub fn compare_tests(a: &Test, b: &Test) -> Ordering
+fn compare_tests(a: &Test, b: &Test) -> Ordering
     ensures { result ≡ test_cmp a.now b.now }
 {
     match (a, b) {

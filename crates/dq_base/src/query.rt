@@ -1,4 +1,5 @@
-use crate::list::{List, Numbers};
+use crate::dim::Dims;
+use crate::list::List;
 use crate::predicate::Predicates;
 
 /// What is computed over the rows of a group. Columns are numbered from 0.
@@ -33,7 +34,7 @@ pub type OrderKeys = List<OrderKey>;
 pub struct Query {
     pub source: u32,
     pub filters: Predicates,
-    pub dims: Numbers,
+    pub dims: Dims,
     pub measures: Measures,
     pub order: OrderKeys,
     pub top: Option<u32>,

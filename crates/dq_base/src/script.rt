@@ -1,4 +1,6 @@
+use crate::bound::Bound;
 use crate::list::{List, Numbers, Numbers64, Text, Texts};
+use crate::predicate::Predicates;
 use crate::query::Queries;
 use crate::schema::Schemas;
 
@@ -33,15 +35,41 @@ pub struct Fails {
 /// One item for each lane.
 pub type FailsList = List<Fails>;
 
-/// A script: the extracts' names and schemas, the capacities of both caches, the lanes, the schedule's turns as lane
-/// numbers, and what is wanted to fail.
+/// What a lane's session may see of a source: the rows that every one of its filters keeps.
+#[derive(Debug, Drop)]
+pub struct Session {
+    pub lane: u32,
+    pub source: u32,
+    pub filters: Predicates,
+}
+
+/// Sessions, of which no two are of one lane and one source.
+pub type Sessions = List<Session>;
+
+/// Two neighbouring zones of a batch that are shown as one. `zone` is the number of the first one, and `links` has for each
+/// dimension of the second one the place of its like among those of the first, from 1.
+#[derive(Debug, Drop)]
+pub struct Blend {
+    pub lane: u32,
+    pub step: u32,
+    pub zone: u32,
+    pub links: Numbers,
+}
+
+/// Blends in order of lanes, steps and zones.
+pub type Blends = List<Blend>;
+
+/// A script: the extracts' names and schemas, the bounds of both caches, the lanes, the schedule's turns as lane numbers,
+/// what is wanted to fail, the sessions' filters, and the zones that are blended.
 #[derive(Debug, Drop)]
 pub struct Script {
     pub names: Texts,
     pub schemas: Schemas,
-    pub literal: u32,
-    pub clever: u32,
+    pub literal: Bound,
+    pub clever: Bound,
     pub lanes: LaneSteps,
     pub schedule: Numbers,
     pub fails: FailsList,
+    pub sessions: Sessions,
+    pub blends: Blends,
 }

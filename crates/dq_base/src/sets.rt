@@ -1,4 +1,5 @@
-ghost use Rattle.std.specs.Prelude.{◌≡◌, ◌≤◌, MatchResult, OnErr, OnOk, length};
+ghost use Rattle.std.specs.Prelude.{◌≡◌, ◌≤◌, IfOk, MatchResult, OnErr, OnOk, Some, length, option_map, slice_get};
+ghost use Rattle.std.specs.declared.cmp.Ordering.TheVariants.{Equal};
 ghost use Rattle.std.specs.List.{insert};
 ghost use Rattle.dq_base.specs.Sets.{with};
 
@@ -6,9 +7,10 @@ use crate::list::List;
 use crate::memory::Memory;
 use std::cmp::Ordering;
 
-/// Whether an item has its like in an ascending list; else the place before which it belongs.
-pub fn place_of<T: Ord>(items: &[T], item: &T) -> Result<usize, usize>
-    ensures { MatchResult result (λ _. with T.cmp item.now items.now ≡ items.now)
+/// The place of an item's like in an ascending list; else the place before which it belongs.
+fn place_of<T: Ord>(items: &[T], item: &T) -> Result<usize, usize>
+    ensures there { IfOk result (λ place. option_map (T.cmp item.now) (slice_get items.now place) ≡ Some Equal) }
+    ensures place { MatchResult result (λ _. with T.cmp item.now items.now ≡ items.now)
         (λ place. (place ≤ length items.now) × (with T.cmp item.now items.now ≡ insert items.now place item.now)) }
 {
     for (place, other) in items.iter().enumerate() {
@@ -28,6 +30,6 @@ pub fn put<T: Ord + Drop>(items: &mut List<T>, item: T) -> Result<(), Memory>
 {
     match place_of(items.as_slice(), &item) {
         Ok(_) => Ok(()),
-        Err(place) => items.insert(place, item),
+        Err(place) => items.insert(place as u64, item),
     }
 }

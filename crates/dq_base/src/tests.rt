@@ -1,11 +1,12 @@
 // Orders, bounds and lists, each once.
 use crate::{
-    Cell, Duplicate, List, Measure, Memory, Query, Ratio, Schema, Sort, Text, Value, compare_cells,
-    compare_values, put,
+    Canon, Canons, Cell, Dim, Duplicate, List, Measure, Memory, Query, Ratio, Schema, Sort, Text,
+    Value, bands_round_down, compare_cells, compare_values, put,
 };
 use std::alloc::Global;
 use std::cmp::Ordering;
 use std::process::Abort;
+use std::sync::Arc;
 use std::test::Fail;
 
 fn word(rt: &impl Abort, alloc: Global, bytes: &[u8]) -> Text {
@@ -70,6 +71,8 @@ fn lists_grow(rt: HostRuntime) -> Result<(), Fail> {
     list.push(7)?;
     list.push(9)?;
     list.insert(1, 8)?;
+    assert_eq!(rt; list.numbered(3).copied(), Some(9));
+    assert_eq!(rt; list.numbered(0).copied(), None);
     put(&mut list, 8)?;
     put(&mut list, 6)?;
     assert_eq!(rt; list.as_slice(), [6, 7, 8, 9].as_slice());
@@ -84,12 +87,14 @@ fn lists_grow(rt: HostRuntime) -> Result<(), Fail> {
 }
 
 fn query(alloc: Global) -> Result<Query, Memory> {
+    let mut dims = List::new(alloc);
+    dims.push(Dim::plain(5))?;
     let mut measures = List::new(alloc);
     measures.push(Measure::Rows)?;
     Ok(Query {
         source: 3,
         filters: List::new(alloc),
-        dims: List::new(alloc),
+        dims,
         measures,
         order: List::new(alloc),
         top: Some(1),
@@ -103,8 +108,59 @@ fn copies_are_whole(rt: HostRuntime) -> Result<(), Fail> {
     assert_eq!(rt; copy.source, 3);
     assert_eq!(rt; copy.measures.as_slice(), [Measure::Rows].as_slice());
     assert_eq!(rt; copy.top, Some(1));
-    let schema = Schema::new(List::new(alloc), List::new(alloc)).duplicate(alloc)?;
+    assert_eq!(rt;
+        copy.dims.get(0).map(|d| (d.column(), d.width())),
+        Some((5, 1))
+    );
+    let schema = Schema::new(alloc, List::new(alloc), List::new(alloc))?.duplicate(alloc)?;
     assert_eq!(rt; schema.names().len(), 0);
     assert_eq!(rt; schema.sorts().as_slice(), [Sort::Whole; 0].as_slice());
+    Ok(())
+}
+
+#[test]
+fn bands_are_numbered(rt: HostRuntime) {
+    for (number, width, band) in [
+        (-1, 10, -1),
+        (-10, 10, -1),
+        (-11, 10, -2),
+        (0, 10, 0),
+        (9, 10, 0),
+        (10, 10, 1),
+        (7, 1, 7),
+        (i64::MIN, 1, i64::MIN),
+        (i64::MIN, 2, i64::MIN / 2),
+        (i64::MAX, u32::MAX, 2147483648),
+    ] {
+        let dim = Dim::new(0, width).expect(&rt, "a width");
+        assert_eq!(rt; dim.band(number), band, "{number} in bands of {width}");
+    }
+    assert!(rt; Dim::new(0, 0).is_none());
+    bands_round_down();
+}
+
+// A query without filters is in canonical form.
+fn canon(alloc: Global) -> Canon {
+    Canon::new(Query {
+        source: 3,
+        filters: List::new(alloc),
+        dims: List::new(alloc),
+        measures: List::new(alloc),
+        order: List::new(alloc),
+        top: None,
+    })
+}
+
+#[test]
+fn canons_are_shared(rt: HostRuntime) -> Result<(), Fail> {
+    let alloc = rt.alloc();
+    let mut canons = Canons::new(alloc);
+    assert_eq!(rt; canons.len(), 0);
+    canons.push(Arc::new(alloc, canon(alloc))?)?;
+    assert_eq!(rt; canons.as_slice().len(), 1);
+    let canon = canons.get(0).expect(&rt, "the first");
+    assert_eq!(rt; canon.query().source, 3);
+    assert_eq!(rt; canon.duplicate(alloc)?.query().source, 3);
+    assert!(rt; canons.get(1).is_none());
     Ok(())
 }

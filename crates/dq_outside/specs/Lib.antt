@@ -1,4 +1,3 @@
-pub mod Causes
 pub mod Fails
 pub mod Files
 pub mod InMemory

@@ -1,6 +1,6 @@
 -- What a folder answers.
 use Rattle.std.specs.Prelude.{◌≡◌, ⊤, ℕ, ◌+◌, ◌<◌, ◌≤◌, List, length, Option, Some, None, IfSome, Result, Ok, Err}
-use Rattle.dq_outside.specs.Causes.{Rose, RoseBy}
+use Rattle.dq_base.specs.Causes.{Rose, RoseBy}
 use Rattle.dq_outside.specs.declared.folder.FolderFault.{FolderFault}
 use Rattle.dq_outside.specs.declared.folder.FolderFault.TheVariants as fault
 

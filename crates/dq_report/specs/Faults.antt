@@ -1,6 +1,6 @@
 -- Why a report isn't written whole.
 use Rattle.std.specs.Prelude.{◌≡◌, ℕ, ◌≤◌, Result, Err}
-use Rattle.dq_outside.specs.Causes.{Rose}
+use Rattle.dq_base.specs.Causes.{Rose}
 use Rattle.dq_outside.specs.declared.sink.SinkFault.{SinkFault}
 use Rattle.dq_outside.specs.declared.sink.SinkFault.TheVariants as sink
 use Rattle.dq_report.specs.declared.writing.WriteFault.{WriteFault}

@@ -1,5 +1,5 @@
 ghost use Rattle.std.specs.Prelude.{◌≡◌, ◌++◌, IfOk, OnOk, OnErr, IfErr};
-ghost use Rattle.dq_outside.specs.Causes.{Rose};
+ghost use Rattle.dq_base.specs.Causes.{Rose};
 ghost use Rattle.dq_outside.specs.Writes.{appended, WritesPrefix};
 ghost use Rattle.dq_report.specs.Report.{counted_line, head_text, report_text};
 ghost use Rattle.dq_report.specs.Faults.{CountsFaults, FaultOf};

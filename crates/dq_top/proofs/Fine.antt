@@ -6,7 +6,7 @@ use Rattle.std.specs.Prelude.{Result, Ok, Err, OnOk, OnErr, IfSome, ⊤}
 use Rattle.std.specs.declared.alloc.Global.{Global}
 use Rattle.std.specs.declared.sync.Arc.{Arc}
 use Rattle.dq_extract.specs.Loads.{LoadedFiles}
-use Rattle.dq_outside.specs.Causes.{Rose}
+use Rattle.dq_base.specs.Causes.{Rose}
 use Rattle.dq_outside.specs.Reads.{Files}
 use Rattle.dq_outside.specs.Writes.{appended, WritesPrefix}
 use Rattle.dq_journal.specs.Right.{IsRight}

@@ -10,7 +10,7 @@ use Rattle.dq_base.specs.declared.query.Query.{Query}
 use Rattle.dq_base.specs.declared.script.Script.{Script}
 use Rattle.dq_base.specs.declared.script.Step.{Step}
 use Rattle.dq_base.specs.declared.script.Step.TheVariants as step
-use Rattle.dq_outside.specs.Causes.{Rose}
+use Rattle.dq_base.specs.Causes.{Rose}
 use Rattle.dq_outside.specs.Reads.{Files}
 use Rattle.dq_outside.specs.Writes.{appended, WritesPrefix}
 use Rattle.dq_outside.specs.declared.folder.FolderFault.{FolderFault}

@@ -1,7 +1,7 @@
 ghost use Rattle.std.specs.Arc.{arc_value};
 ghost use Rattle.std.specs.Prelude.{◌≡◌, ◌↔◌, ◌≤◌, ℕ, List as ListOf, true, false, IfSome, Some, None};
 ghost use Rattle.dq_extract.specs.Loads.{LoadedFiles};
-ghost use Rattle.dq_outside.specs.Causes.{Rose};
+ghost use Rattle.dq_base.specs.Causes.{Rose};
 ghost use Rattle.dq_outside.specs.Reads.{Files};
 ghost use Rattle.dq_rehearse.specs.Follows.{Follows};
 ghost use Rattle.dq_report.specs.Report.{report_text};
