@@ -44,9 +44,13 @@ fn stranger_in<'a>(members: &'a Map<String, Value>, names: &[&str]) -> Option<&'
 fn stranger_of<'a>(value: &'a Value, names: &[&str]) -> Option<&'a str>
     ensures { option_map (λ s. s.now) result ≡ stranger_of (map (λ n. n.now) names.now) (as_object (view value.now)) }
 {
-    let members = value.as_object()?;
-    let name = stranger_in(members, names)?;
-    Some(name.as_str())
+    let Some(members) = value.as_object() else {
+        return None;
+    };
+    match stranger_in(members, names) {
+        Some(name) => Some(name.as_str()),
+        None => None,
+    }
 }
 
 // Puts a byte of a name behind a path, as a JSON Pointer spells it (RFC 6901).
