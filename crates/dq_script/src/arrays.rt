@@ -41,7 +41,7 @@ fn take_at<R: Takes>(
 }
 
 // Items in order.
-fn take_items<R: Takes>(
+pub fn take_items<R: Takes>(
     reader: &R,
     alloc: Global,
     state: R::State,
