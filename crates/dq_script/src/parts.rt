@@ -108,26 +108,6 @@ impl<'a> Reads for ReadsNewName<'a> {
     }
 }
 
-// Reads a whole number from the one to the other.
-#[derive(Drop)]
-pub struct ReadsNumber {
-    pub low: u64,
-    pub high: u64,
-}
-
-impl Reads for ReadsNumber {
-    type Out = u64;
-
-    ghost reading = { λ s d. given (number_of s.low s.high d) };
-
-    fn read(&self, alloc: Global, value: &Value) -> Result<u64, Misfit> {
-        match number_of(value, self.low, self.high) {
-            Some(number) => Ok(number),
-            None => Err(here(alloc)),
-        }
-    }
-}
-
 // The one item.
 pub fn only(items: &[Value]) -> Option<&Value>
     ensures { option_map (λ v. view v.now) result ≡ only (items_view items.now) }
