@@ -78,7 +78,7 @@ links-fit : (first second : Zone) (links : List ℕ) → length first.query.dims
     → links_between (first, second) ≡ Ok links → links_fit links (Some first.query) (Some second.query) ≡ true
 links-fit first second links a b e =
     let read : links_of (map key_of first.by) 0 [] second.by ≡ Ok links =
-        within_ok (codes "by") (links_of (map key_of first.by) 0 [] second.by) links (within_ok (codes "1") (within (codes "by") (links_of (map key_of first.by) 0 [] second.by)) links e) in
+    within_ok (codes "by") (links_of (map key_of first.by) 0 [] second.by) links (within_ok (codes "1") (within (codes "by") (links_of (map key_of first.by) 0 [] second.by)) links e) in
     let so : AreLinks (length (map key_of first.by)) (length second.by) links = links-so (map key_of first.by) 0 [] second.by links (length second.by) read refl (omega arith) in
     let keys : length (map key_of first.by) ≡ length first.query.dims = length-map first.by key_of ∙ sym a in
     let P : ℕ → Type 0 = λ n. list_all (is_place n) links ≡ true in

@@ -82,7 +82,7 @@ script_with-fits d kept fit =
     let lanes = d.plan.lanes.lanes in
     let steps : list_all (lane_fits (length d.extracts.names)) lanes ≡ true = lanes-fit (length d.extracts.names) lanes fit.steps fit.zones fit.known in
     let sessions : list_all (session_fits (length lanes) (length d.extracts.names)) (map session_with d.plan.sessions) ≡ true =
-        sessions-fit (length lanes) (length d.extracts.names) d.plan.sessions kept.plan.sessions fit.sessions_known fit.sources fit.items in
+    sessions-fit (length lanes) (length d.extracts.names) d.plan.sessions kept.plan.sessions fit.sessions_known fit.sources fit.items in
     record {
       named = named;
       extracts = omega arith;

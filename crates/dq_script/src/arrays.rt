@@ -82,7 +82,12 @@ impl<R: Reads> Takes for ArrayOf<R> {
 
     ghost next = { λ s. next_item (R.reading s.item) };
 
-    fn take(&self, alloc: Global, state: List<R::Out>, value: &Value) -> Result<List<R::Out>, Misfit> {
+    fn take(
+        &self,
+        alloc: Global,
+        state: List<R::Out>,
+        value: &Value,
+    ) -> Result<List<R::Out>, Misfit> {
         let mut items = state;
         let item = self.item.read(alloc, value)?;
         items.push(item)?;

@@ -60,11 +60,7 @@ fn keys_of(alloc: Global, by: &[Grouping]) -> Result<Places<(Text, u32)>, Memory
 }
 
 // The link of a dimension, where there is its like. That it is too large for a link is told as want of memory.
-fn read_link(
-    alloc: Global,
-    keys: &Places<(Text, u32)>,
-    grouping: &Grouping,
-) -> Result<u32, Misfit>
+fn read_link(alloc: Global, keys: &Places<(Text, u32)>, grouping: &Grouping) -> Result<u32, Misfit>
     ensures { Answers (given (link_of keys.now grouping.now)) result }
 {
     let key = key_of(alloc, grouping)?;
@@ -96,11 +92,7 @@ fn read_link_at(
 }
 
 // A link for each dimension.
-fn read_links(
-    alloc: Global,
-    keys: &Places<(Text, u32)>,
-    by: &[Grouping],
-) -> Result<Numbers, Misfit>
+fn read_links(alloc: Global, keys: &Places<(Text, u32)>, by: &[Grouping]) -> Result<Numbers, Misfit>
     ensures { Answers (links_of keys.now 0 [] by.now) result }
 {
     let mut links = Numbers::new(alloc);

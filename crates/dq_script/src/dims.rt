@@ -78,12 +78,7 @@ fn column_of(names: Names, name: &Text) -> u32
 }
 
 // A band of the column of this name.
-fn read_named(
-    alloc: Global,
-    names: Names,
-    width: &Value,
-    name: Text,
-) -> Result<Grouping, Misfit>
+fn read_named(alloc: Global, names: Names, width: &Value, name: Text) -> Result<Grouping, Misfit>
     ensures { Answers (named_band names.entry.names.now (view width.now) name) result }
 {
     let column = column_of(names, &name);

@@ -119,12 +119,7 @@ fn put_pairs(
 }
 
 // The blends of a lane.
-fn put_steps(
-    alloc: Global,
-    blends: Blends,
-    lane: u32,
-    pairs: &[Pairs],
-) -> Result<Blends, Memory>
+fn put_steps(alloc: Global, blends: Blends, lane: u32, pairs: &[Pairs]) -> Result<Blends, Memory>
     requires { few_lane pairs.now ≡ true }
     ensures { IfOk result (λ made. made ≡ blends ++ blends_in lane 1 pairs.now) }
 {

@@ -109,12 +109,7 @@ fn read_by(alloc: Global, names: Names, rest: &[Value], kind: Kind) -> Result<Me
 }
 
 // A measure, by its word and what follows.
-fn read_from(
-    alloc: Global,
-    names: Names,
-    word: &Value,
-    rest: &[Value],
-) -> Result<Measure, Misfit>
+fn read_from(alloc: Global, names: Names, word: &Value, rest: &[Value]) -> Result<Measure, Misfit>
     ensures { Answers (measure_in names.entry.names.now (item (view word.now) (items_view rest.now))) result }
 {
     let kind = read_within(&ReadsKind, alloc, b"0", word)?;

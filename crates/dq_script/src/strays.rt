@@ -71,11 +71,7 @@ impl Strays for StraySource {
     ghost stray = { λ s. stray_source s.extracts };
 
     fn stray(&self, alloc: Global, session: &Filtered) -> Result<Option<Text>, Memory> {
-        unless(
-            alloc,
-            (session.source as u64) < self.extracts,
-            b"/source",
-        )
+        unless(alloc, (session.source as u64) < self.extracts, b"/source")
     }
 }
 

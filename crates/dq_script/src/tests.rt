@@ -37,52 +37,19 @@ const FIRST: &str =
 const SECOND: &str =
     r#"{"form":2,"extracts":[{"name":"a","columns":[["t","text"],["n","whole"]]}],"clever":9,"lanes":[[],[{"batch":[{"source":"a"},{"blend":[{"source":"a","by":["t",["band","n",5],"t","n"]},{"source":"a","by":[["band","n",5],"t"]}]}]},{"batch":[{"blend":[{"source":"a"},{"source":"a"}]},{"blend":[{"source":"b","by":["x"]},{"source":"a","by":["x"]}]}]}]],"sessions":[{"lane":2,"source":"a","filters":[{"column":"n","between":[1,null]}]},{"lane":1,"source":"a","filters":[{"column":"n","between":[1,null]}]}]}"#;
 
-// Scripts, and what is told of each.
-const SCRIPTS: [(&str, Told); 111] = [
-    (
-        r#""#,
-        Told::NotJson,
-    ),
-    (
-        r#"{"#,
-        Told::NotJson,
-    ),
-    (
-        r#"1"#,
-        Told::Shape(""),
-    ),
-    (
-        r#"[]"#,
-        Told::Shape(""),
-    ),
-    (
-        r#"{}"#,
-        Told::Shape("/form"),
-    ),
-    (
-        r#"{"form":3}"#,
-        Told::Shape("/form"),
-    ),
-    (
-        r#"{"form":1.0}"#,
-        Told::Shape("/form"),
-    ),
-    (
-        r#"{"form":"1"}"#,
-        Told::Shape("/form"),
-    ),
-    (
-        r#"{"form":0}"#,
-        Told::Shape("/form"),
-    ),
-    (
-        r#"{"form":1}"#,
-        Told::Shape("/extracts"),
-    ),
-    (
-        r#"{"form":1,"extracts":[]}"#,
-        Told::Shape("/lanes"),
-    ),
+// Scripts as a whole, and what is told of each.
+const WHOLE: [(&str, Told); 29] = [
+    (r#""#, Told::NotJson),
+    (r#"{"#, Told::NotJson),
+    (r#"1"#, Told::Shape("")),
+    (r#"[]"#, Told::Shape("")),
+    (r#"{}"#, Told::Shape("/form")),
+    (r#"{"form":3}"#, Told::Shape("/form")),
+    (r#"{"form":1.0}"#, Told::Shape("/form")),
+    (r#"{"form":"1"}"#, Told::Shape("/form")),
+    (r#"{"form":0}"#, Told::Shape("/form")),
+    (r#"{"form":1}"#, Told::Shape("/extracts")),
+    (r#"{"form":1,"extracts":[]}"#, Told::Shape("/lanes")),
     (
         r#"{"form":1,"extracts":[{"name":"a"}],"lanes":[]}"#,
         Told::Shape("/extracts/0/columns"),
@@ -139,14 +106,8 @@ const SCRIPTS: [(&str, Told); 111] = [
         r#"{"form":1,"extracts":[],"lanes":[[{"publish":"x","how":"append","file":"f"}]]}"#,
         Told::Extract("/lanes/0/0/publish"),
     ),
-    (
-        r#"{"form":1,"extracts":[],"lanes":[]}"#,
-        Told::Read,
-    ),
-    (
-        r#"{"form":2,"extracts":[],"lanes":[]}"#,
-        Told::Read,
-    ),
+    (r#"{"form":1,"extracts":[],"lanes":[]}"#, Told::Read),
+    (r#"{"form":2,"extracts":[],"lanes":[]}"#, Told::Read),
     (
         r#"{"form":1,"form":2,"extracts":[],"lanes":[],"sessions":[]}"#,
         Told::Read,
@@ -155,6 +116,10 @@ const SCRIPTS: [(&str, Told); 111] = [
         r#"{"form":1,"extracts":[],"lanes":[],"sessions":[]}"#,
         Told::Shape("/sessions"),
     ),
+];
+
+// Extracts and faults, and what is told of each.
+const PARTS: [(&str, Told); 17] = [
     (
         r#"{"form":1,"extracts":[1],"lanes":[]}"#,
         Told::Shape("/extracts/0"),
@@ -223,6 +188,10 @@ const SCRIPTS: [(&str, Told); 111] = [
         r#"{"form":1,"extracts":[],"lanes":[[],[]],"faults":[{"lane":2},{"lane":1}]}"#,
         Told::Read,
     ),
+];
+
+// Steps, and what is told of each.
+const STEPS: [(&str, Told); 11] = [
     (
         r#"{"form":1,"extracts":[{"name":"a","columns":[["c","text"],["n","whole"]]}],"lanes":[[],[1]]}"#,
         Told::Shape("/lanes/1/0"),
@@ -267,6 +236,10 @@ const SCRIPTS: [(&str, Told); 111] = [
         r#"{"form":1,"extracts":[{"name":"a","columns":[["c","text"],["n","whole"]]}],"lanes":[[],[{"batch":{}}]]}"#,
         Told::Shape("/lanes/1/0/batch"),
     ),
+];
+
+// Zones, and what is told of each.
+const ZONES: [(&str, Told); 32] = [
     (
         r#"{"form":1,"extracts":[{"name":"a","columns":[["c","text"],["n","whole"]]}],"lanes":[[],[{"batch":[[]]}]]}"#,
         Told::Shape("/lanes/1/0/batch/0"),
@@ -395,6 +368,10 @@ const SCRIPTS: [(&str, Told); 111] = [
         r#"{"form":1,"extracts":[{"name":"a","columns":[["c","text"],["n","whole"]]}],"lanes":[[],[{"batch":[{"source":"a","by":[["band","n",4294967295]]}]}]]}"#,
         Told::Read,
     ),
+];
+
+// Blends, and what is told of each.
+const PAIRS: [(&str, Told); 12] = [
     (
         r#"{"form":1,"extracts":[{"name":"a","columns":[["c","text"],["n","whole"]]}],"lanes":[[],[{"batch":[{"blend":[{"source":"a"},{"source":"a"}]}]}]]}"#,
         Told::Shape("/lanes/1/0/batch/0/source"),
@@ -443,6 +420,10 @@ const SCRIPTS: [(&str, Told); 111] = [
         r#"{"form":2,"extracts":[{"name":"a","columns":[["c","text"],["n","whole"]]}],"lanes":[[],[{"batch":[{"blend":[{"source":"a"},{"source":"a"}],"source":1,"by":1}]}]]}"#,
         Told::Shape("/lanes/1/0/batch/0/by"),
     ),
+];
+
+// Sessions, and what is told of each.
+const SESSIONS: [(&str, Told); 10] = [
     (
         r#"{"form":2,"extracts":[{"name":"a","columns":[["c","text"],["n","whole"]]}],"lanes":[[],[]],"sessions":[{"lane":1,"source":"a","filters":[]}]}"#,
         Told::Read,
@@ -641,11 +622,62 @@ fn copies(alloc: Global, text: &str, count: u32) -> Result<String, AllocError> {
 }
 
 #[test]
-fn tells_each_fault(rt: HostRuntime) -> Result<(), Fail> {
+fn tells_faults_of_whole_scripts(rt: HostRuntime) -> Result<(), Fail> {
     let alloc = rt.alloc();
-    for (script, told) in SCRIPTS {
+    for (script, told) in WHOLE {
         assert!(rt; tells(&read(alloc, script.as_bytes()), told), "{script}");
     }
+    Ok(())
+}
+
+#[test]
+fn tells_faults_of_extracts_and_faults(rt: HostRuntime) -> Result<(), Fail> {
+    let alloc = rt.alloc();
+    for (script, told) in PARTS {
+        assert!(rt; tells(&read(alloc, script.as_bytes()), told), "{script}");
+    }
+    Ok(())
+}
+
+#[test]
+fn tells_faults_of_steps(rt: HostRuntime) -> Result<(), Fail> {
+    let alloc = rt.alloc();
+    for (script, told) in STEPS {
+        assert!(rt; tells(&read(alloc, script.as_bytes()), told), "{script}");
+    }
+    Ok(())
+}
+
+#[test]
+fn tells_faults_of_zones(rt: HostRuntime) -> Result<(), Fail> {
+    let alloc = rt.alloc();
+    for (script, told) in ZONES {
+        assert!(rt; tells(&read(alloc, script.as_bytes()), told), "{script}");
+    }
+    Ok(())
+}
+
+#[test]
+fn tells_faults_of_blends(rt: HostRuntime) -> Result<(), Fail> {
+    let alloc = rt.alloc();
+    for (script, told) in PAIRS {
+        assert!(rt; tells(&read(alloc, script.as_bytes()), told), "{script}");
+    }
+    Ok(())
+}
+
+#[test]
+fn tells_faults_of_sessions(rt: HostRuntime) -> Result<(), Fail> {
+    let alloc = rt.alloc();
+    for (script, told) in SESSIONS {
+        assert!(rt; tells(&read(alloc, script.as_bytes()), told), "{script}");
+    }
+    Ok(())
+}
+
+#[test]
+fn refuses_what_is_no_json(rt: HostRuntime) -> Result<(), Fail> {
+    let alloc = rt.alloc();
     assert!(rt; tells(&read(alloc, &[b'['; 200]), Told::NotJson));
     assert!(rt; tells(&read(alloc, &[b'"', 255, b'"']), Told::NotJson));
     Ok(())
@@ -657,7 +689,10 @@ fn tests_each_limit(rt: HostRuntime) -> Result<(), Fail> {
     for (start, text, end, count, told) in COUNTS {
         let more = copies(alloc, text, count)?;
         let script = format!(in alloc; "{start}{}{end}", more.as_str())?;
-        assert!(rt; tells(&read(alloc, script.as_bytes()), told), "{count} of {text}");
+        assert!(rt;
+            tells(&read(alloc, script.as_bytes()), told),
+            "{count} of {text}"
+        );
     }
     Ok(())
 }
@@ -836,9 +871,7 @@ fn is_session(script: &Script, place: u64, lane: u32) -> bool {
     };
     match session.filters.get(0) {
         Some(filter) => {
-            session.lane == lane
-                && session.source == 0
-                && is_between(filter, 1, Some(1), None)
+            session.lane == lane && session.source == 0 && is_between(filter, 1, Some(1), None)
         }
         None => false,
     }
@@ -889,7 +922,9 @@ fn knows_wanted_faults(rt: HostRuntime) -> Result<(), Fail> {
         (",\"dials\":[1]", false),
         (",\"links\":[0]", false),
     ] {
-        let script = format!(in alloc; "{{\"form\":1,\"extracts\":[],\"lanes\":[[]],\"faults\":[{{\"lane\":1{fault}}}]}}")?;
+        let script = format!(in alloc;
+            "{{\"form\":1,\"extracts\":[],\"lanes\":[[]],\"faults\":[{{\"lane\":1{fault}}}]}}"
+        )?;
         assert_eq!(rt; wants_no_fault(&read(alloc, script.as_bytes())?), none);
     }
     Ok(())

@@ -110,9 +110,15 @@ impl Reads for ReadsTop {
 fn read_asked(alloc: Global, names: Names, zone: &Value, source: u32) -> Result<Zone, Misfit>
     ensures { Answers (mapped (zone_with source) (asked_of names.entry.names.now (view zone.now))) result }
 {
-    let each_filter = ArrayOf { item: ReadsFilter { names } };
-    let each_grouping = ArrayOf { item: ReadsGrouping { names } };
-    let each_measure = ArrayOf { item: ReadsMeasure { names } };
+    let each_filter = ArrayOf {
+        item: ReadsFilter { names },
+    };
+    let each_grouping = ArrayOf {
+        item: ReadsGrouping { names },
+    };
+    let each_measure = ArrayOf {
+        item: ReadsMeasure { names },
+    };
     let each_key = ArrayOf { item: ReadsKey };
     let filters = read_optional(&each_filter, alloc, zone, "filters", Predicates::new(alloc))?;
     let by = read_optional(&each_grouping, alloc, zone, "by", Groupings::new(alloc))?;
