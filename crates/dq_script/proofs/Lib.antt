@@ -1,14 +1,15 @@
 pub mod Among
-pub mod Agreed
-pub mod Ahead
+pub mod Blended
 pub mod Chains
 pub mod Counted
-pub mod Earlier
-pub mod Fitted
+pub mod Drafted
 pub mod Json
 pub mod Kept
+pub mod Linked
+pub mod Numbers
+pub mod Paired
+pub mod Placed
+pub mod Reasoned
 pub mod Scripted
-pub mod Smaller
 pub mod Sourced
 pub mod Tallied
-mod Worked

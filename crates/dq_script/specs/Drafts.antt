@@ -1,42 +1,61 @@
 -- The whole script, before its limits are tested.
 use Rattle.std.specs.Prelude.{ℕ, List, [], ◌∷◌, codes}
 use Rattle.serde_json.specs.Data.{Data}
-use Rattle.dq_base.specs.declared.script.Step.{Step}
-use Rattle.dq_script.specs.Columns.{extracts_of}
-use Rattle.dq_script.specs.Objects.{object_of, wanted, optional}
-use Rattle.dq_script.specs.Parts.{number_of, most_whole}
-use Rattle.dq_script.specs.Readings.{Reading, given, mapped, both, and_then}
-use Rattle.dq_script.specs.Steps.{lanes_of, numbers_of, faults_of}
+use Rattle.dq_script.specs.Columns.{extracts_of, known}
+use Rattle.dq_script.specs.Faults.{whole_from, numbers_of, faults_of}
+use Rattle.dq_script.specs.Forms.{form_of}
+use Rattle.dq_script.specs.Objects.{object_of, no_strangers, is_object, wanted, optional}
+use Rattle.dq_script.specs.Readings.{Reading, given, provided, mapped, both, and_then}
+use Rattle.dq_script.specs.Sessions.{sessions_in}
+use Rattle.dq_script.specs.Steps.{lanes_of}
 use Rattle.dq_script.specs.declared.draft.Draft.{Draft}
-use Rattle.dq_script.specs.declared.draft.Session.{Session}
+use Rattle.dq_script.specs.declared.draft.Plan.{Plan}
 use Rattle.dq_script.specs.declared.extracts.Extracts.{Extracts}
 use Rattle.dq_script.specs.declared.faults.Fault.{Fault}
+use Rattle.dq_script.specs.declared.form.Form.{Form}
+use Rattle.dq_script.specs.declared.form.Form.TheVariants.{First, Second}
+use Rattle.dq_script.specs.declared.sessions.Filtered.{Filtered}
+use Rattle.dq_script.specs.declared.step.Lanes.{Lanes}
 
--- the number of entries of a cache
-abbrev pub capacity_of : List ℕ → Data → Reading ℕ
-capacity_of name d = optional 64 name (λ n. given (number_of 1 most_whole n)) d
+-- how much a cache holds where nothing is said: entries in the first form, cells in the second
+abbrev pub usual_capacity : Form → ℕ
+usual_capacity First = 64
+usual_capacity Second = 1048576
 
-abbrev pub session_with : ((ℕ × ℕ) × (List (List Step) × (List ℕ × List Fault))) → Session
-session_with p = record { literal = p.0.0; clever = p.0.1; lanes = p.1.0; schedule = p.1.1.0; faults = p.1.1.1 }
+abbrev pub capacity_of : Form → List ℕ → Data → Reading ℕ
+capacity_of form name d = optional (usual_capacity form) name (whole_from 1) d
+
+abbrev pub plan_with : ((ℕ × ℕ) × (Lanes × (List ℕ × (List Fault × List Filtered)))) → Plan
+plan_with p = record { literal = p.0.0; clever = p.0.1; lanes = p.1.0; schedule = p.1.1.0; faults = p.1.1.1.0; sessions = p.1.1.1.1 }
 
 -- what a script says over its extracts
-abbrev pub session_of : Extracts → Data → Reading Session
-session_of es d = mapped session_with (both
-    (both (capacity_of (codes "literal") d) (capacity_of (codes "clever") d))
-    (both (wanted (codes "lanes") (lanes_of es) d) (both (optional [] (codes "schedule") (numbers_of 1) d) (optional [] (codes "faults") faults_of d))))
+abbrev pub plan_of : Form → Extracts → Data → Reading Plan
+plan_of form es d = mapped plan_with (both
+    (both (capacity_of form (codes "literal") d) (capacity_of form (codes "clever") d))
+    (both (wanted (codes "lanes") (lanes_of form es) d)
+    (both (optional [] (codes "schedule") (numbers_of 1) d) (both (optional [] (codes "faults") faults_of d) (sessions_in form es d)))))
 
-abbrev pub draft_with : Extracts → Session → Draft
-draft_with es s = record { extracts = es; session = s }
+abbrev pub draft_with : Form → Extracts → Plan → Draft
+draft_with form es p = record { form = form; extracts = es; plan = p }
 
-abbrev pub draft_over : Data → Extracts → Reading Draft
-draft_over d es = mapped (draft_with es) (session_of es d)
+-- names are told over extracts within their limits alone
+abbrev pub draft_over : Data → Form → Extracts → Reading Draft
+draft_over d form es = mapped (draft_with form es) (plan_of form (known es) d)
 
--- the form, which is 1, and the extracts
-abbrev pub start_of : Data → Reading Extracts
-start_of d = mapped (λ p. p.1) (both (wanted (codes "form") (λ n. given (number_of 1 1 n)) d) (wanted (codes "extracts") extracts_of d))
+abbrev pub draft_in : Data → Form → Reading Draft
+draft_in d form = and_then (draft_over d form) (wanted (codes "extracts") extracts_of d)
+
+abbrev pub draft_parts : Data → Reading Draft
+draft_parts d = and_then (draft_in d) (wanted (codes "form") (λ n. given (form_of n)) d)
+
+-- the members of a script
+abbrev pub members_of : Form → List (List ℕ)
+members_of First = codes "form" ∷ codes "extracts" ∷ codes "literal" ∷ codes "clever" ∷ codes "lanes" ∷ codes "schedule" ∷ codes "faults" ∷ []
+members_of Second = codes "form" ∷ codes "extracts" ∷ codes "literal" ∷ codes "clever" ∷ codes "lanes" ∷ codes "schedule" ∷ codes "faults" ∷ codes "sessions" ∷ []
+
+abbrev pub without_strangers : Data → Draft → Reading Draft
+without_strangers d t = mapped (λ u. t) (no_strangers (members_of t.form) d)
 
 -- an object of the form, the extracts and what is said over them
 abbrev pub draft_of : Data → Reading Draft
-draft_of d = object_of
-    (codes "form" ∷ codes "extracts" ∷ codes "literal" ∷ codes "clever" ∷ codes "lanes" ∷ codes "schedule" ∷ codes "faults" ∷ [])
-    (and_then (draft_over d) (start_of d)) d
+draft_of d = provided (is_object d) (and_then (without_strangers d) (draft_parts d))

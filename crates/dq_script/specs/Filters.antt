@@ -1,4 +1,4 @@
--- The filters that a zone writes, over columns of these names.
+-- The filters that a script writes, over columns of these names.
 use Rattle.std.specs.Prelude.{ℕ, ℤ, List, [], ◌∷◌, Bool, true, false, ◌||◌, not, Option, Some, None, option_map, if◌then◌else◌, codes}
 use Rattle.serde_json.specs.Data.{Data}
 use Rattle.serde_json.specs.Find.{as_str}
@@ -13,11 +13,8 @@ use Rattle.dq_script.specs.Parts.{is_null, whole_of, two_items, place_in}
 use Rattle.dq_script.specs.Readings.{Reading, given, provided, within, mapped, both, and_then}
 
 -- the number of the column that is named: that of all columns where none is, which is 0 where there are none
-abbrev pub column_at : List (List ℕ) → Data → Option ℕ
-column_at names d = option_map (place_in names) (as_str d)
-
 abbrev pub column_in : List (List ℕ) → Data → Reading ℕ
-column_in names d = given (column_at names d)
+column_in names d = given (option_map (place_in names) (as_str d))
 
 abbrev pub plain : Option ℤ → Option (List ℕ) → Option Value
 plain (Some i) text = Some (Int i)
@@ -25,24 +22,18 @@ plain None None = None
 plain None (Some s) = Some (Word s)
 
 -- null, a whole number or a string
-abbrev pub value_of : Data → Option Value
-value_of d = if is_null d then Some Null else plain (whole_of d) (as_str d)
+abbrev pub value_of : Data → Reading Value
+value_of d = given (if is_null d then Some Null else plain (whole_of d) (as_str d))
 
 abbrev pub values_of : Data → Reading (List Value)
-values_of d = array_of (λ v. given (value_of v)) d
-
-abbrev pub among_of : Data → Reading Test
-among_of d = mapped Among (values_of d)
-
-abbrev pub except_of : Data → Reading Test
-except_of d = mapped Except (values_of d)
+values_of d = array_of value_of d
 
 -- null or a whole number
-abbrev pub bound_of : Data → Option (Option ℤ)
-bound_of d = if is_null d then Some None else option_map Some (whole_of d)
+abbrev pub bound_of : Data → Reading (Option ℤ)
+bound_of d = given (if is_null d then Some None else option_map Some (whole_of d))
 
 abbrev pub bounds : (Data × Data) → Reading (Option ℤ × Option ℤ)
-bounds p = both (within (codes "0") (given (bound_of p.0))) (within (codes "1") (given (bound_of p.1)))
+bounds p = both (within (codes "0") (bound_of p.0)) (within (codes "1") (bound_of p.1))
 
 abbrev pub between_with : (Option ℤ × Option ℤ) → Test
 between_with p = Between p.0 p.1
@@ -64,8 +55,8 @@ has_test d = one_of (has (codes "among") d) (has (codes "except") d) (has (codes
 -- the test that is there
 abbrev pub test_of : Data → Reading Test
 test_of d =
-    if has (codes "among") d then wanted (codes "among") among_of d
-    else if has (codes "except") d then wanted (codes "except") except_of d
+    if has (codes "among") d then mapped Among (wanted (codes "among") values_of d)
+    else if has (codes "except") d then mapped Except (wanted (codes "except") values_of d)
     else wanted (codes "between") between_of d
 
 abbrev pub filter_with : (ℕ × Test) → Predicate
@@ -73,5 +64,5 @@ filter_with p = record { column = p.0; test = p.1 }
 
 -- an object of a column and one test
 abbrev pub filter_of : List (List ℕ) → Data → Reading Predicate
-filter_of names d = mapped filter_with (provided (has_test d)
-    (object_of (codes "column" ∷ codes "among" ∷ codes "except" ∷ codes "between" ∷ []) (both (wanted (codes "column") (column_in names) d) (test_of d)) d))
+filter_of names d = provided (has_test d)
+    (object_of (codes "column" ∷ codes "among" ∷ codes "except" ∷ codes "between" ∷ []) (mapped filter_with (both (wanted (codes "column") (column_in names) d) (test_of d))) d)

@@ -1,9 +1,9 @@
 -- What the parts of a JSON value are.
 use Rattle.std.specs.Prelude.{ℕ, ℤ, pos, negsuc, List, [], ◌∷◌, Bool, false, ◌&&◌, nat_le, Option, Some, None, is_some, option_and_then, unwrap_or, position, length, if◌then◌else◌}
-use Rattle.std.specs.List.{list_any}
 use Rattle.std.specs.Str.{bytes_eq}
 use Rattle.serde_json.specs.Data.{Data, Items, no_items, item}
 use Rattle.serde_json.specs.Find.{as_null, as_number, as_i64, as_str, as_array}
+use Rattle.dq_script.specs.Places.{is_new, text_cmp}
 use Rattle.dq_script.specs.Readings.{kept_if}
 
 abbrev pub is_text : List ℕ → Option (List ℕ) → Bool
@@ -22,12 +22,12 @@ unless_empty (b ∷ bs) = Some (b ∷ bs)
 abbrev pub string_of : Data → Option (List ℕ)
 string_of d = option_and_then unless_empty (as_str d)
 
-abbrev pub unless_among : List (List ℕ) → List ℕ → Option (List ℕ)
-unless_among earlier name = if list_any (λ other. bytes_eq other name) earlier then None else Some name
+abbrev pub unless_old : List (List ℕ) → List ℕ → Option (List ℕ)
+unless_old earlier name = kept_if (is_new text_cmp earlier name) name
 
 -- a string that isn't empty, and none of these
 abbrev pub new_name : List (List ℕ) → Data → Option (List ℕ)
-new_name earlier d = option_and_then (unless_among earlier) (string_of d)
+new_name earlier d = option_and_then (unless_old earlier) (string_of d)
 
 -- the one item
 abbrev pub only : Items → Option Data
@@ -45,6 +45,14 @@ two (item d (item e (item f ds))) = None
 -- the items of an array of two
 abbrev pub two_items : Data → Option (Data × Data)
 two_items d = option_and_then two (as_array d)
+
+-- the three items
+abbrev pub three : Items → Option (Data × Data × Data)
+three no_items = None
+three (item d no_items) = None
+three (item d (item e no_items)) = None
+three (item d (item e (item f no_items))) = Some (d, e, f)
+three (item d (item e (item f (item g ds)))) = None
 
 abbrev pub some : Items → Option Items
 some no_items = None

@@ -1,53 +1,57 @@
--- What a part of a script reads as, and where it goes wrong.
-use Rattle.std.specs.Prelude.{◌≡◌, ⊤, ℕ, List, [], ◌∷◌, ◌++◌, Bool, Option, Some, None, option_and_then, option_map, if◌then◌else◌, Result, Ok, Err}
-use Rattle.dq_script.specs.declared.fault.ScriptFault.{ScriptFault}
-use Rattle.dq_script.specs.declared.fault.ScriptFault.TheVariants as fault
+-- What a part of a script reads as: its value, or the path of its first fault, from the part itself on.
+use Rattle.std.specs.Prelude.{◌≡◌, ⊤, ℕ, List, [], ◌∷◌, ◌++◌, Bool, true, false, Option, Some, None, Result, Ok, Err, if◌then◌else◌}
+use Rattle.dq_script.specs.declared.misfit.Misfit.{Misfit}
+use Rattle.dq_script.specs.declared.misfit.Misfit.TheVariants as misfit
 
--- the value; where there is none, the path of the first fault, from the part itself on
-pub record Reading (A : Type 0) : Type 0 where
-  pub value : Option A
-  pub path : List ℕ
+abbrev pub Reading : Type 0 → Type 0
+Reading A = Result A (List ℕ)
 
--- an answer is the value that is meant, and isn't built where there is none; only want of memory is told besides
-abbrev pub Answers : {A : Type 0} → Option A → Result A ScriptFault → Type 0
-Answers want (Ok x) = want ≡ Some x
-Answers want (Err fault.Unbuilt) = want ≡ None
-Answers want (Err fault.Memory) = ⊤
+-- an answer is the reading; only want of memory is told besides
+abbrev pub Answers : {A : Type 0} → Reading A → Result A Misfit → Type 0
+Answers want (Ok x) = want ≡ Ok x
+Answers want (Err (misfit.At path)) = want ≡ Err path
+Answers want (Err misfit.Memory) = ⊤
+
+-- a fault within a step of a path is told from that step on
+abbrev pub IsWithin : List ℕ → Misfit → Misfit → Type 0
+IsWithin step (misfit.At rest) (misfit.At path) = path ≡ 47 ∷ (step ++ rest)
+IsWithin step misfit.Memory (misfit.At path) = ⊥
+IsWithin step m misfit.Memory = ⊤
 
 -- the value, where the test holds
 abbrev pub kept_if : {A : Type 0} → Bool → A → Option A
 kept_if b x = if b then Some x else None
 
+-- the first, where there is one
+abbrev pub or_else : {A : Type 0} → Option A → Option A → Option A
+or_else None later = later
+or_else (Some x) later = Some x
+
 -- where there is no value, the part's own path is told
 abbrev pub given : {A : Type 0} → Option A → Reading A
-given o = record { value = o; path = [] }
+given None = Err []
+given (Some x) = Ok x
 
 -- where the test fails, the part's own path is told before anything of it
 abbrev pub provided : {A : Type 0} → Bool → Reading A → Reading A
-provided b r = record { value = if b then r.value else None; path = if b then r.path else [] }
+provided true r = r
+provided false r = Err []
 
 -- what stands at this step of a path
 abbrev pub within : {A : Type 0} → List ℕ → Reading A → Reading A
-within part r = record { value = r.value; path = 47 ∷ (part ++ r.path) }
+within step (Ok x) = Ok x
+within step (Err path) = Err (47 ∷ (step ++ path))
 
 abbrev pub mapped : {A B : Type 0} → (A → B) → Reading A → Reading B
-mapped f r = record { value = option_map f r.value; path = r.path }
-
--- the path that is told where what comes first has no value, and what follows is read else
-abbrev pub path_then : {A : Type 0} → Option A → List ℕ → (A → List ℕ) → List ℕ
-path_then None path more = path
-path_then (Some x) path more = more x
-
--- two values, where there are both
-abbrev pub pair : {A B : Type 0} → Option A → Option B → Option (A × B)
-pair None y = None
-pair (Some x) None = None
-pair (Some x) (Some y) = Some (x, y)
-
--- two parts, the first before the second
-abbrev pub both : {A B : Type 0} → Reading A → Reading B → Reading (A × B)
-both a b = record { value = pair a.value b.value; path = path_then a.value a.path (λ x. b.path) }
+mapped f (Ok x) = Ok (f x)
+mapped f (Err path) = Err path
 
 -- what follows a part, by its value
 abbrev pub and_then : {A B : Type 0} → (A → Reading B) → Reading A → Reading B
-and_then f r = record { value = option_and_then (λ x. (f x).value) r.value; path = path_then r.value r.path (λ x. (f x).path) }
+and_then f (Ok x) = f x
+and_then f (Err path) = Err path
+
+-- two parts, the first before the second
+abbrev pub both : {A B : Type 0} → Reading A → Reading B → Reading (A × B)
+both (Ok x) b = mapped (λ y. (x, y)) b
+both (Err path) b = Err path

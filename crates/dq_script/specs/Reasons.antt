@@ -1,15 +1,22 @@
--- Why bytes are no script.
-use Rattle.std.specs.Prelude.{ℕ, ◌+◌, List, [], ◌∷◌, ◌++◌, Bool, Option, Some, None, option_map, nat_lt, nat_le, length, map, if◌then◌else◌, codes}
+-- Why a draft is no script: a limit that is passed, or a name that is unknown.
+use Rattle.std.specs.Prelude.{ℕ, ◌+◌, ◌-◌, ◌^◌, min, List, [], ◌∷◌, ◌++◌, Bool, not, Option, Some, None, option_map, nat_lt, nat_le, length, if◌then◌else◌, codes}
 use Rattle.std.specs.Fmt.{decimal}
-use Rattle.std.specs.List.{flat_map}
-use Rattle.dq_base.specs.Limits.{most_extracts, most_columns, most_lanes, most_steps, most_zones, most_all_zones, most_turns, most_faults, most_kept}
+use Rattle.std.specs.List.{list_any, position_from}
+use Rattle.dq_base.specs.Headings.{Heading}
+use Rattle.dq_base.specs.Limits.{most_extracts, most_columns, most_lanes, most_steps, most_zones, most_all_zones, most_turns, most_faults, most_entries, most_bound_cells, most_session_items}
 use Rattle.dq_base.specs.Scripts.{zones_count}
+use Rattle.dq_base.specs.Sessions.{filter_items}
 use Rattle.dq_base.specs.declared.limit.Limit.{Limit}
-use Rattle.dq_base.specs.declared.limit.Limit.TheVariants.{Extracts, Columns, Lanes, Steps, Zones, AllZones, Turns, Faults, Capacity}
+use Rattle.dq_base.specs.declared.limit.Limit.TheVariants.{Extracts, Columns, Lanes, Steps, Zones, AllZones, Turns, Faults, Capacity, SessionItems}
 use Rattle.dq_base.specs.declared.script.Step.{Step}
 use Rattle.dq_base.specs.declared.script.Step.TheVariants.{Publish, Batch}
+use Rattle.dq_script.specs.Readings.{or_else}
 use Rattle.dq_script.specs.declared.draft.Draft.{Draft}
+use Rattle.dq_script.specs.declared.draft.Plan.{Plan}
 use Rattle.dq_script.specs.declared.faults.Fault.{Fault}
+use Rattle.dq_script.specs.declared.form.Form.{Form}
+use Rattle.dq_script.specs.declared.form.Form.TheVariants.{First, Second}
+use Rattle.dq_script.specs.declared.sessions.Filtered.{Filtered}
 
 -- bytes that are no JSON, a value of another shape, a limit that is passed by this value, and unknown names
 pub data ScriptReason : Type 0 where
@@ -19,40 +26,66 @@ pub data ScriptReason : Type 0 where
   unknown_extract : List ℕ → ScriptReason
   unknown_lane : List ℕ → ScriptReason
 
-abbrev pub or_else : {A : Type 0} → Option A → Option A → Option A
-or_else None later = later
-or_else (Some x) later = Some x
+-- a number, where it is above the most
+abbrev pub above : ℕ → ℕ → Option ℕ
+above most n = if nat_le n most then None else Some n
 
--- the first of these numbers above the most
-abbrev pub first_above : ℕ → List ℕ → Option ℕ
-first_above most [] = None
-first_above most (n ∷ ns) = if nat_le n most then first_above most ns else Some n
+-- what is found first in a list
+abbrev pub first_in : {A B : Type 0} → (A → Option B) → List A → Option B
+first_in find [] = None
+first_in find (x ∷ xs) = or_else (find x) (first_in find xs)
 
--- a limit that one of these numbers passes
-abbrev pub passed : Limit → ℕ → List ℕ → Option ScriptReason
-passed limit most ns = option_map (over limit) (first_above most ns)
+-- as much of a count as a number of 64 bits tells
+abbrev pub told : ℕ → ℕ
+told n = min n (2 ^ 64 - 1)
 
--- the numbers of zones of the batches, in order of lanes and steps
-abbrev pub batches : Step → List ℕ
-batches (Publish source how file) = []
-batches (Batch zones) = length zones ∷ []
+abbrev pub columns_above : Heading → Option ℕ
+columns_above h = above most_columns (length h.names)
 
--- the lengths of a fault's lists
-abbrev pub fault_lengths : Fault → List ℕ
-fault_lengths f = length f.dials ∷ length f.links ∷ []
+abbrev pub steps_above : List Step → Option ℕ
+steps_above steps = above most_steps (length steps)
+
+abbrev pub zones_above : Step → Option ℕ
+zones_above (Publish source how file) = None
+zones_above (Batch zones) = above most_zones (length zones)
+
+-- the dials before the links
+abbrev pub faults_above : Fault → Option ℕ
+faults_above f = or_else (above most_faults (length f.dials)) (above most_faults (length f.links))
+
+abbrev pub most_capacity : Form → ℕ
+most_capacity First = most_entries
+most_capacity Second = most_bound_cells
+
+abbrev pub items_above : Filtered → Option ℕ
+items_above s = above most_session_items (told (filter_items s.filters))
+
+abbrev pub passed : Limit → Option ℕ → Option ScriptReason
+passed limit value = option_map (over limit) value
+
+-- the first limit on lanes that is passed
+abbrev pub over_lanes : List (List Step) → Option ScriptReason
+over_lanes lanes =
+    or_else (passed Lanes (above most_lanes (length lanes)))
+    (or_else (passed Steps (first_in steps_above lanes))
+    (or_else (passed Zones (first_in (first_in zones_above) lanes))
+    (passed AllZones (above most_all_zones (zones_count lanes)))))
+
+-- the first limit on what stands beside the lanes that is passed
+abbrev pub over_rest : Form → Plan → Option ScriptReason
+over_rest form p =
+    or_else (passed Turns (above most_turns (length p.schedule)))
+    (or_else (passed Faults (first_in faults_above p.faults))
+    (or_else (passed Capacity (above (most_capacity form) p.literal))
+    (or_else (passed Capacity (above (most_capacity form) p.clever))
+    (passed SessionItems (first_in items_above p.sessions)))))
 
 -- the first limit that is passed
 abbrev pub over_limit : Draft → Option ScriptReason
 over_limit d =
-    or_else (passed Extracts most_extracts (length d.extracts.names ∷ []))
-    (or_else (passed Columns most_columns (map (λ h. length h.names) d.extracts.schemas))
-    (or_else (passed Lanes most_lanes (length d.session.lanes ∷ []))
-    (or_else (passed Steps most_steps (map (λ steps. length steps) d.session.lanes))
-    (or_else (passed Zones most_zones (flat_map (λ steps. flat_map batches steps) d.session.lanes))
-    (or_else (passed AllZones most_all_zones (zones_count d.session.lanes ∷ []))
-    (or_else (passed Turns most_turns (length d.session.schedule ∷ []))
-    (or_else (passed Faults most_faults (flat_map fault_lengths d.session.faults))
-    (passed Capacity most_kept (d.session.literal ∷ d.session.clever ∷ [])))))))))
+    or_else (passed Extracts (above most_extracts (length d.extracts.names)))
+    (or_else (passed Columns (first_in columns_above d.extracts.schemas))
+    (or_else (over_lanes d.plan.lanes.lanes) (over_rest d.form d.plan)))
 
 -- the path of the first item in which something is found, from the list on; the first item stands at this place
 abbrev pub found_in : {A : Type 0} → (A → Option (List ℕ)) → ℕ → List A → Option (List ℕ)
@@ -67,17 +100,46 @@ abbrev pub stray_publish : ℕ → Step → Option (List ℕ)
 stray_publish extracts (Publish source how file) = unless (nat_lt source extracts) (codes "/publish")
 stray_publish extracts (Batch zones) = None
 
--- the first publication of no extract
-abbrev pub stray_extract : Draft → Option ScriptReason
-stray_extract d = option_map (λ path. unknown_extract (codes "/lanes" ++ path))
-    (found_in (found_in (stray_publish (length d.extracts.names)) 0) 0 d.session.lanes)
+abbrev pub stray_steps : ℕ → List Step → Option (List ℕ)
+stray_steps extracts steps = found_in (stray_publish extracts) 0 steps
 
--- the first lane's number above that of lanes, in the schedule and then in the faults
-abbrev pub stray_lane : Draft → Option ScriptReason
-stray_lane d = or_else
-    (option_map (λ path. unknown_lane (codes "/schedule" ++ path)) (found_in (λ turn. unless (nat_le turn (length d.session.lanes)) []) 0 d.session.schedule))
-    (option_map (λ path. unknown_lane (codes "/faults" ++ path)) (found_in (λ f. unless (nat_le f.lane (length d.session.lanes)) (codes "/lane")) 0 d.session.faults))
+-- a session of no extract, of so many
+abbrev pub stray_source : ℕ → Filtered → Option (List ℕ)
+stray_source extracts s = unless (nat_lt s.source extracts) (codes "/source")
+
+-- a turn of no lane, of so many
+abbrev pub stray_turn : ℕ → ℕ → Option (List ℕ)
+stray_turn lanes turn = unless (nat_le turn lanes) []
+
+abbrev pub stray_fault : ℕ → Fault → Option (List ℕ)
+stray_fault lanes f = unless (nat_le f.lane lanes) (codes "/lane")
+
+abbrev pub stray_session : ℕ → Filtered → Option (List ℕ)
+stray_session lanes s = unless (nat_le s.lane lanes) (codes "/lane")
+
+-- what is found in the member of this name
+abbrev pub found_at : List ℕ → Option (List ℕ) → Option (List ℕ)
+found_at name path = option_map (λ rest. 47 ∷ (name ++ rest)) path
+
+-- the first publication of no extract, and then the first session
+abbrev pub stray_extract : ℕ → Plan → Option (List ℕ)
+stray_extract extracts p = or_else
+    (found_at (codes "lanes") (found_in (stray_steps extracts) 0 p.lanes.lanes))
+    (found_at (codes "sessions") (found_in (stray_source extracts) 0 p.sessions))
+
+-- the first lane's number above that of lanes, in the schedule, then in the faults and then in the sessions
+abbrev pub stray_lane : ℕ → Plan → Option (List ℕ)
+stray_lane lanes p = or_else
+    (found_at (codes "schedule") (found_in (stray_turn lanes) 0 p.schedule))
+    (or_else (found_at (codes "faults") (found_in (stray_fault lanes) 0 p.faults))
+    (found_at (codes "sessions") (found_in (stray_session lanes) 0 p.sessions)))
+
+-- the first name that is unknown
+abbrev pub stray_name : Draft → Option ScriptReason
+stray_name d = or_else
+    (option_map unknown_extract (stray_extract (length d.extracts.names) d.plan))
+    (option_map unknown_lane (stray_lane (length d.plan.lanes.lanes) d.plan))
 
 -- the first reason against what was read
 abbrev pub reason_against : Draft → Option ScriptReason
-reason_against d = or_else (over_limit d) (or_else (stray_extract d) (stray_lane d))
+reason_against d = or_else (over_limit d) (stray_name d)

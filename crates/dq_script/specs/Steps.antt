@@ -1,73 +1,73 @@
--- The steps and faults that a script writes.
-use Rattle.std.specs.Prelude.{ℕ, List, [], ◌∷◌, ◌++◌, Bool, ◌||◌, not, Option, Some, None, option_and_then, if◌then◌else◌, codes}
-use Rattle.std.specs.List.{list_any}
-use Rattle.std.specs.Prelude.{nat_eq}
+-- The steps and lanes that a script writes.
+use Rattle.std.specs.Prelude.{ℕ, List, [], ◌∷◌, ◌++◌, Bool, ◌||◌, not, Option, Some, None, if◌then◌else◌, codes}
 use Rattle.serde_json.specs.Data.{Data}
-use Rattle.serde_json.specs.Find.{as_array}
 use Rattle.dq_base.specs.declared.script.How.{How}
 use Rattle.dq_base.specs.declared.script.How.TheVariants as how
-use Rattle.dq_base.specs.declared.script.Step.{Step}
-use Rattle.dq_base.specs.declared.script.Step.TheVariants.{Publish, Batch}
-use Rattle.dq_script.specs.Arrays.{array_of, items_after}
-use Rattle.dq_script.specs.Objects.{has, object_of, wanted, optional}
-use Rattle.dq_script.specs.Parts.{is_string, string_of, number_of, most_whole}
-use Rattle.dq_script.specs.Readings.{Reading, given, provided, mapped, both, and_then}
-use Rattle.dq_script.specs.Zones.{source_at, zone_of}
+use Rattle.dq_base.specs.declared.script.Step.TheVariants as step
+use Rattle.dq_script.specs.Arrays.{array_after}
+use Rattle.dq_script.specs.Batches.{batch_of}
+use Rattle.dq_script.specs.Objects.{has, object_of, wanted}
+use Rattle.dq_script.specs.Parts.{is_string, string_of}
+use Rattle.dq_script.specs.Readings.{Reading, given, provided, mapped, both}
+use Rattle.dq_script.specs.Zones.{source_in}
+use Rattle.dq_script.specs.declared.batch.Batch.{Batch}
 use Rattle.dq_script.specs.declared.extracts.Extracts.{Extracts}
-use Rattle.dq_script.specs.declared.faults.Fault.{Fault}
+use Rattle.dq_script.specs.declared.form.Form.{Form}
+use Rattle.dq_script.specs.declared.step.Taken.{Taken}
+use Rattle.dq_script.specs.declared.step.Lane.{Lane}
+use Rattle.dq_script.specs.declared.step.Lanes.{Lanes}
 
 -- "replace" or "append"
 abbrev pub how_of : Data → Option How
 how_of d = if is_string (codes "replace") d then Some how.Replace else if is_string (codes "append") d then Some how.Append else None
 
-abbrev pub publish_with : (ℕ × (How × List ℕ)) → Step
-publish_with p = Publish p.0 p.1.0 p.1.1
+abbrev pub publish_with : (ℕ × (How × List ℕ)) → Taken
+publish_with p = record { step = step.Publish p.0 p.1.0 p.1.1; pairs = [] }
 
 -- an object of an extract's name, how a file is taken, and the file
-abbrev pub publish_of : Extracts → Data → Reading Step
-publish_of es d = mapped publish_with (object_of (codes "publish" ∷ codes "how" ∷ codes "file" ∷ [])
-    (both (wanted (codes "publish") (λ s. given (source_at es.names s)) d) (both (wanted (codes "how") (λ h. given (how_of h)) d) (wanted (codes "file") (λ f. given (string_of f)) d))) d)
+abbrev pub publish_of : Extracts → Data → Reading Taken
+publish_of es d = object_of (codes "publish" ∷ codes "how" ∷ codes "file" ∷ [])
+    (mapped publish_with (both (wanted (codes "publish") (source_in es) d) (both (wanted (codes "how") (λ h. given (how_of h)) d) (wanted (codes "file") (λ f. given (string_of f)) d)))) d
+
+abbrev pub batch_with : Batch → Taken
+batch_with b = record { step = step.Batch b.zones; pairs = b.pairs }
 
 -- an object of an array of zones
-abbrev pub batch_of : Extracts → Data → Reading Step
-batch_of es d = mapped Batch (object_of (codes "batch" ∷ []) (wanted (codes "batch") (array_of (zone_of es)) d) d)
+abbrev pub batch_in : Form → Extracts → Data → Reading Taken
+batch_in f es d = object_of (codes "batch" ∷ []) (mapped batch_with (wanted (codes "batch") (batch_of f es) d)) d
 
 -- an object with a member of a publication
 abbrev pub has_publish : Data → Bool
 has_publish d = has (codes "publish") d || (has (codes "how") d || has (codes "file") d)
 
 -- a batch alone, or a publication
-abbrev pub step_of : Extracts → Data → Reading Step
-step_of es d =
-    if has (codes "batch") d then provided (not (has_publish d)) (batch_of es d)
+abbrev pub step_of : Form → Extracts → Data → Reading Taken
+step_of f es d =
+    if has (codes "batch") d then provided (not (has_publish d)) (batch_in f es d)
     else provided (has (codes "publish") d) (publish_of es d)
 
--- an array of lanes, each an array of steps
-abbrev pub lanes_of : Extracts → Data → Reading (List (List Step))
-lanes_of es d = array_of (array_of (step_of es)) d
+abbrev pub with_step : Lane → Taken → Lane
+with_step l t = record { steps = l.steps ++ t.step ∷ []; pairs = l.pairs ++ t.pairs ∷ [] }
 
--- an array of whole numbers from the one to the other
-abbrev pub numbers_of : ℕ → Data → Reading (List ℕ)
-numbers_of low d = array_of (λ n. given (number_of low most_whole n)) d
+abbrev pub next_step : Form → Extracts → Lane → Data → Reading Lane
+next_step f es l d = mapped (with_step l) (step_of f es d)
 
-abbrev pub unless_told : List Fault → ℕ → Option ℕ
-unless_told earlier lane = if list_any (λ f. nat_eq f.lane lane) earlier then None else Some lane
+abbrev pub no_steps : Lane
+no_steps = record { steps = []; pairs = [] }
 
--- a lane's number that no earlier fault has
-abbrev pub new_lane : List Fault → Data → Option ℕ
-new_lane earlier d = option_and_then (unless_told earlier) (number_of 1 most_whole d)
+-- an array of steps
+abbrev pub lane_of : Form → Extracts → Data → Reading Lane
+lane_of f es d = array_after (next_step f es) no_steps d
 
-abbrev pub fault_with : (ℕ × (List ℕ × List ℕ)) → Fault
-fault_with p = record { lane = p.0; dials = p.1.0; links = p.1.1 }
+abbrev pub with_lane : Lanes → Lane → Lanes
+with_lane ls l = record { lanes = ls.lanes ++ l.steps ∷ []; pairs = ls.pairs ++ l.pairs ∷ [] }
 
--- an object of a lane, which no earlier fault has, and what is wanted to fail in it
-abbrev pub fault_of : List Fault → Data → Reading Fault
-fault_of earlier d = mapped fault_with (object_of (codes "lane" ∷ codes "dials" ∷ codes "links" ∷ [])
-    (both (wanted (codes "lane") (λ n. given (new_lane earlier n)) d) (both (optional [] (codes "dials") (numbers_of 1) d) (optional [] (codes "links") (numbers_of 0) d))) d)
+abbrev pub next_lane : Form → Extracts → Lanes → Data → Reading Lanes
+next_lane f es ls d = mapped (with_lane ls) (lane_of f es d)
 
-abbrev pub next_fault : List Fault → Data → Reading (List Fault)
-next_fault earlier d = mapped (λ f. earlier ++ f ∷ []) (fault_of earlier d)
+abbrev pub no_lanes : Lanes
+no_lanes = record { lanes = []; pairs = [] }
 
--- an array of faults
-abbrev pub faults_of : Data → Reading (List Fault)
-faults_of d = and_then (items_after next_fault []) (given (as_array d))
+-- an array of lanes
+abbrev pub lanes_of : Form → Extracts → Data → Reading Lanes
+lanes_of f es d = array_after (next_lane f es) no_lanes d

@@ -1,17 +1,15 @@
-ghost use Rattle.std.specs.Prelude.{◌≡◌, [], codes};
-ghost use Rattle.serde_json.specs.View.{view, items_view};
-ghost use Rattle.dq_script.specs.Arrays.{values_after};
-ghost use Rattle.dq_script.specs.Objects.{optional};
-ghost use Rattle.dq_script.specs.Parts.{number_of, most_whole};
+ghost use Rattle.std.specs.Prelude.{◌≡◌, [], IfOk};
+ghost use Rattle.serde_json.specs.View.{view};
 ghost use Rattle.dq_script.specs.Readings.{Answers};
-ghost use Rattle.dq_script.specs.Steps.{numbers_of, new_lane, fault_of, next_fault, faults_of};
+ghost use Rattle.dq_script.specs.Faults.{whole_from, new_lane, fault_of, with_fault, next_fault, faults_of};
 
-use crate::arrays::{Reads, read_array};
-use crate::fault::ScriptFault;
-use crate::lane_faults::LaneFaults;
-use crate::objects::has_only;
+use crate::arrays::{ArrayOf, Takes, take_array};
+use crate::misfit::{Misfit, here};
+use crate::objects::{is_object, refuse_strangers};
 use crate::parts::{MOST_WHOLE, number_of};
-use dq_base::{List, Numbers64};
+use crate::places::Places;
+use crate::reads::{Reads, read_optional, read_wanted};
+use dq_base::{List, Memory, Numbers64};
 use serde_json::Value;
 use std::alloc::Global;
 
@@ -23,110 +21,115 @@ pub struct Fault {
     pub links: Numbers64,
 }
 
-// Reads a whole number from this one on.
+// The faults that were read so far, and the lane of each.
 #[derive(Drop)]
-struct ReadsNumber {
-    low: u64,
+pub struct Faults {
+    pub lanes: Places<u64>,
+    pub faults: List<Fault>,
 }
 
-impl Reads for ReadsNumber {
+// Reads a whole number from this one on.
+#[derive(Drop)]
+pub struct ReadsWhole {
+    pub low: u64,
+}
+
+impl Reads for ReadsWhole {
     type Out = u64;
 
-    ghost reading = { λ s d. number_of s.low most_whole d };
+    ghost reading = { λ s. whole_from s.low };
 
-    fn read(&self, _alloc: Global, value: &Value) -> Result<u64, ScriptFault> {
+    fn read(&self, alloc: Global, value: &Value) -> Result<u64, Misfit> {
         match number_of(value, self.low, MOST_WHOLE) {
             Some(number) => Ok(number),
-            None => Err(ScriptFault::Unbuilt),
+            None => Err(here(alloc)),
         }
     }
 }
 
-// An array of whole numbers from this one on.
-pub fn read_numbers(alloc: Global, low: u64, value: &Value) -> Result<Numbers64, ScriptFault>
-    ensures { Answers (numbers_of low (view value.now)).value result }
-{
-    read_array(&ReadsNumber { low }, alloc, value)
+// Reads the lane of a fault, which none of these is.
+#[derive(Drop)]
+struct ReadsNewLane<'a> {
+    lanes: &'a Places<u64>,
 }
 
-// The lane of a fault, which none of these has.
-fn new_lane(earlier: &LaneFaults, value: &Value) -> Option<u64>
-    ensures { result ≡ new_lane earlier.now (view value.now) }
-{
-    let lane = number_of(value, 1, MOST_WHOLE)?;
-    if earlier.has_lane(lane) {
-        return None;
-    }
-    Some(lane)
-}
+impl<'a> Reads for ReadsNewLane<'a> {
+    type Out = u64;
 
-// The dials of a fault.
-fn read_dials(alloc: Global, fault: &Value) -> Result<Numbers64, ScriptFault>
-    ensures { Answers (optional [] (codes "dials") (numbers_of 1) (view fault.now)).value result }
-{
-    match fault.get("dials") {
-        Some(numbers) => read_numbers(alloc, 1, numbers),
-        None => Ok(Numbers64::new(alloc)),
-    }
-}
+    ghost reading = { λ s. new_lane s.lanes.now };
 
-// The calls of a fault's links.
-fn read_links(alloc: Global, fault: &Value) -> Result<Numbers64, ScriptFault>
-    ensures { Answers (optional [] (codes "links") (numbers_of 0) (view fault.now)).value result }
-{
-    match fault.get("links") {
-        Some(numbers) => read_numbers(alloc, 0, numbers),
-        None => Ok(Numbers64::new(alloc)),
+    fn read(&self, alloc: Global, value: &Value) -> Result<u64, Misfit> {
+        let Some(lane) = number_of(value, 1, MOST_WHOLE) else {
+            return Err(here(alloc));
+        };
+        if !self.lanes.is_new(&lane) {
+            return Err(here(alloc));
+        }
+        Ok(lane)
     }
 }
 
 // A fault, of a lane that no earlier one has.
-fn read_fault(alloc: Global, earlier: &LaneFaults, value: &Value) -> Result<Fault, ScriptFault>
-    ensures { Answers (fault_of earlier.now (view value.now)).value result }
+fn read_fault(alloc: Global, lanes: &Places<u64>, value: &Value) -> Result<Fault, Misfit>
+    ensures { Answers (fault_of lanes.now (view value.now)) result }
 {
-    if !has_only(value, &["lane", "dials", "links"]) {
-        return Err(ScriptFault::Unbuilt);
+    if !is_object(value) {
+        return Err(here(alloc));
     }
-    let Some(lane) = value.get("lane") else {
-        return Err(ScriptFault::Unbuilt);
+    let each_dial = ArrayOf {
+        item: ReadsWhole { low: 1 },
     };
-    let Some(lane) = new_lane(earlier, lane) else {
-        return Err(ScriptFault::Unbuilt);
+    let each_link = ArrayOf {
+        item: ReadsWhole { low: 0 },
     };
-    let dials = match read_dials(alloc, value) {
-        Ok(dials) => dials,
-        Err(fault) => return Err(fault),
-    };
-    match read_links(alloc, value) {
-        Ok(links) => Ok(Fault { lane, dials, links }),
-        Err(fault) => Err(fault),
+    let lane = read_wanted(&ReadsNewLane { lanes }, alloc, value, "lane")?;
+    let dials = read_optional(&each_dial, alloc, value, "dials", Numbers64::new(alloc))?;
+    let links = read_optional(&each_link, alloc, value, "links", Numbers64::new(alloc))?;
+    refuse_strangers(alloc, value, &["lane", "dials", "links"])?;
+    Ok(Fault { lane, dials, links })
+}
+
+// These faults, and one more at the end.
+fn with_fault(all: Faults, fault: Fault) -> Result<Faults, Memory>
+    ensures { IfOk result (λ more. more ≡ with_fault all fault) }
+{
+    let Faults { lanes, mut faults } = all;
+    let lanes = lanes.with(fault.lane, fault.lane)?;
+    faults.push(fault)?;
+    Ok(Faults { lanes, faults })
+}
+
+// Takes faults in order.
+#[derive(Drop)]
+struct TakesFaults;
+
+impl Takes for TakesFaults {
+    type State = Faults;
+
+    ghost next = { λ s. next_fault };
+
+    fn take(&self, alloc: Global, all: Faults, value: &Value) -> Result<Faults, Misfit> {
+        let fault = read_fault(alloc, &all.lanes, value)?;
+        let more = with_fault(all, fault)?;
+        Ok(more)
     }
 }
 
-// Faults in order, whose lanes are looked up in a set.
-fn read_all(alloc: Global, items: &[Value]) -> Result<List<Fault>, ScriptFault>
-    ensures { Answers (values_after (λ fs d. (next_fault fs d).value) [] (items_view items.now)) result }
-{
-    let mut faults = LaneFaults::new(alloc);
-    for item in items {
-        let fault = match read_fault(alloc, &faults, item) {
-            Ok(fault) => fault,
-            Err(fault) => return Err(fault),
-        };
-        let Ok(more) = faults.with(fault) else {
-            return Err(ScriptFault::Memory);
-        };
-        faults = more;
-    }
-    Ok(faults.into_list())
-}
+// Reads an array of faults.
+#[derive(Drop)]
+pub struct ReadsFaults;
 
-// An array of faults.
-pub fn read_faults(alloc: Global, value: &Value) -> Result<List<Fault>, ScriptFault>
-    ensures { Answers (faults_of (view value.now)).value result }
-{
-    match value.as_array() {
-        Some(items) => read_all(alloc, items.as_slice()),
-        None => Err(ScriptFault::Unbuilt),
+impl Reads for ReadsFaults {
+    type Out = List<Fault>;
+
+    ghost reading = { λ s. faults_of };
+
+    fn read(&self, alloc: Global, value: &Value) -> Result<List<Fault>, Misfit> {
+        let none = Faults {
+            lanes: Places::new(alloc),
+            faults: List::new(alloc),
+        };
+        let all = take_array(&TakesFaults, alloc, none, value)?;
+        Ok(all.faults)
     }
 }

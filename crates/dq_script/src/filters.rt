@@ -1,47 +1,19 @@
-ghost use Rattle.std.specs.Prelude.{◌≡◌, option_map, codes};
+ghost use Rattle.std.specs.Prelude.{◌≡◌};
 ghost use Rattle.serde_json.specs.View.{view};
-ghost use Rattle.serde_json.specs.Find.{as_str};
-ghost use Rattle.dq_base.specs.declared.value.Value.TheVariants.{Word};
-ghost use Rattle.dq_script.specs.Objects.{wanted};
-ghost use Rattle.dq_script.specs.Readings.{Answers, pair};
-ghost use Rattle.dq_script.specs.Filters.{column_in, value_of, values_of, among_of, except_of, bound_of, between_of, has_test, test_of, filter_with, filter_of};
+ghost use Rattle.dq_script.specs.Readings.{Answers};
+ghost use Rattle.dq_script.specs.Filters.{value_of, bound_of, between_of, has_test, test_of, filter_of};
 
-use crate::arrays::{Reads, read_array};
-use crate::fault::ScriptFault;
-use crate::names::{Names, column_at};
-use crate::objects::{has, has_only};
-use crate::parts::{is_null, two_items, whole_of};
-use dq_base::{Predicate, Test, Text, Values};
+use crate::arrays::ArrayOf;
+use crate::misfit::{Misfit, here};
+use crate::names::{Names, ReadsColumn};
+use crate::objects::{has, is_object, refuse_strangers};
+use crate::parts::{is_null, read_text, two_items, whole_of};
+use crate::reads::{Reads, read_wanted, read_within};
+use dq_base::{Predicate, Test};
 use serde_json::Value;
 use std::alloc::Global;
 
-// A string as a value, where it is one.
-fn read_word(alloc: Global, value: &Value) -> Result<dq_base::Value, ScriptFault>
-    ensures { Answers (option_map Word (as_str (view value.now))) result }
-{
-    let Some(string) = value.as_str() else {
-        return Err(ScriptFault::Unbuilt);
-    };
-    match Text::copy_of(alloc, string.as_bytes()) {
-        Ok(text) => Ok(dq_base::Value::Word(text)),
-        Err(_) => Err(ScriptFault::Memory),
-    }
-}
-
-// Null, a whole number or a string.
-fn read_value(alloc: Global, value: &Value) -> Result<dq_base::Value, ScriptFault>
-    ensures { Answers (value_of (view value.now)) result }
-{
-    if is_null(value) {
-        return Ok(dq_base::Value::Null);
-    }
-    match whole_of(value) {
-        Some(whole) => Ok(dq_base::Value::Int(whole)),
-        None => read_word(alloc, value),
-    }
-}
-
-// Reads a value.
+// Reads null, a whole number or a string.
 #[derive(Drop)]
 struct ReadsValue;
 
@@ -50,39 +22,55 @@ impl Reads for ReadsValue {
 
     ghost reading = { λ s. value_of };
 
-    fn read(&self, alloc: Global, value: &Value) -> Result<dq_base::Value, ScriptFault> {
-        read_value(alloc, value)
+    fn read(&self, alloc: Global, value: &Value) -> Result<dq_base::Value, Misfit> {
+        if is_null(value) {
+            return Ok(dq_base::Value::Null);
+        }
+        if let Some(whole) = whole_of(value) {
+            return Ok(dq_base::Value::Int(whole));
+        }
+        let text = read_text(alloc, value)?;
+        Ok(dq_base::Value::Word(text))
     }
 }
 
-// An array of values.
-fn read_values(alloc: Global, value: &Value) -> Result<Values, ScriptFault>
-    ensures { Answers (values_of (view value.now)).value result }
-{
-    read_array(&ReadsValue, alloc, value)
+// Reads null or a whole number.
+#[derive(Drop)]
+struct ReadsBound;
+
+impl Reads for ReadsBound {
+    type Out = Option<i64>;
+
+    ghost reading = { λ s. bound_of };
+
+    fn read(&self, alloc: Global, value: &Value) -> Result<Option<i64>, Misfit> {
+        if is_null(value) {
+            return Ok(None);
+        }
+        match whole_of(value) {
+            Some(whole) => Ok(Some(whole)),
+            None => Err(here(alloc)),
+        }
+    }
 }
 
-// Null or a whole number.
-fn bound_of(value: &Value) -> Option<Option<i64>>
-    ensures { result ≡ bound_of (view value.now) }
-{
-    if is_null(value) {
-        return Some(None);
-    }
-    match whole_of(value) {
-        Some(whole) => Some(Some(whole)),
-        None => None,
-    }
-}
+// Reads an array of the two bounds.
+#[derive(Drop)]
+struct ReadsBetween;
 
-// An array of the two bounds.
-fn between_of(value: &Value) -> Option<Test>
-    ensures { result ≡ (between_of (view value.now)).value }
-{
-    let (low, high) = two_items(value)?;
-    let low = bound_of(low)?;
-    let high = bound_of(high)?;
-    Some(Test::Between(low, high))
+impl Reads for ReadsBetween {
+    type Out = Test;
+
+    ghost reading = { λ s. between_of };
+
+    fn read(&self, alloc: Global, value: &Value) -> Result<Test, Misfit> {
+        let Some((low, high)) = two_items(value) else {
+            return Err(here(alloc));
+        };
+        let low = read_within(&ReadsBound, alloc, b"0", low)?;
+        let high = read_within(&ReadsBound, alloc, b"1", high)?;
+        Ok(Test::Between(low, high))
+    }
 }
 
 // Whether exactly one of the three tests is there.
@@ -101,72 +89,20 @@ fn has_test(value: &Value) -> bool
     }
 }
 
-// The values that are wanted.
-fn read_among(alloc: Global, value: &Value) -> Result<Test, ScriptFault>
-    ensures { Answers (among_of (view value.now)).value result }
-{
-    match read_values(alloc, value) {
-        Ok(values) => Ok(Test::Among(values)),
-        Err(fault) => Err(fault),
-    }
-}
-
-// The values that aren't wanted.
-fn read_except(alloc: Global, value: &Value) -> Result<Test, ScriptFault>
-    ensures { Answers (except_of (view value.now)).value result }
-{
-    match read_values(alloc, value) {
-        Ok(values) => Ok(Test::Except(values)),
-        Err(fault) => Err(fault),
-    }
-}
-
 // The test that is there.
-fn read_test(alloc: Global, value: &Value) -> Result<Test, ScriptFault>
-    ensures { Answers (test_of (view value.now)).value result }
+fn read_test(alloc: Global, value: &Value) -> Result<Test, Misfit>
+    ensures { Answers (test_of (view value.now)) result }
 {
-    if let Some(values) = value.get("among") {
-        return read_among(alloc, values);
+    let list = ArrayOf { item: ReadsValue };
+    if has(value, "among") {
+        let values = read_wanted(&list, alloc, value, "among")?;
+        return Ok(Test::Among(values));
     }
-    if let Some(values) = value.get("except") {
-        return read_except(alloc, values);
+    if has(value, "except") {
+        let values = read_wanted(&list, alloc, value, "except")?;
+        return Ok(Test::Except(values));
     }
-    let Some(bounds) = value.get("between") else {
-        return Err(ScriptFault::Unbuilt);
-    };
-    match between_of(bounds) {
-        Some(test) => Ok(test),
-        None => Err(ScriptFault::Unbuilt),
-    }
-}
-
-// The column and the test of a filter.
-fn read_parts(alloc: Global, names: Names, value: &Value) -> Result<Predicate, ScriptFault>
-    ensures { Answers (option_map filter_with (pair (wanted (codes "column") (column_in names.entry.names.now) (view value.now)).value (test_of (view value.now)).value)) result }
-{
-    let Some(column) = value.get("column") else {
-        return Err(ScriptFault::Unbuilt);
-    };
-    let Some(column) = column_at(names, column) else {
-        return Err(ScriptFault::Unbuilt);
-    };
-    match read_test(alloc, value) {
-        Ok(test) => Ok(Predicate { column, test }),
-        Err(fault) => Err(fault),
-    }
-}
-
-// A filter over columns of these names.
-fn read_filter(alloc: Global, names: Names, value: &Value) -> Result<Predicate, ScriptFault>
-    ensures { Answers (filter_of names.entry.names.now (view value.now)).value result }
-{
-    if !has_test(value) {
-        return Err(ScriptFault::Unbuilt);
-    }
-    if !has_only(value, &["column", "among", "except", "between"]) {
-        return Err(ScriptFault::Unbuilt);
-    }
-    read_parts(alloc, names, value)
+    read_wanted(&ReadsBetween, alloc, value, "between")
 }
 
 // Reads a filter over columns of these names.
@@ -178,9 +114,15 @@ pub struct ReadsFilter<'a> {
 impl<'a> Reads for ReadsFilter<'a> {
     type Out = Predicate;
 
-    ghost reading = { λ s d. (filter_of s.names.names.now d).value };
+    ghost reading = { λ s. filter_of s.names.names.now };
 
-    fn read(&self, alloc: Global, value: &Value) -> Result<Predicate, ScriptFault> {
-        read_filter(alloc, self.names, value)
+    fn read(&self, alloc: Global, value: &Value) -> Result<Predicate, Misfit> {
+        if !has_test(value) || !is_object(value) {
+            return Err(here(alloc));
+        }
+        let column = read_wanted(&ReadsColumn { names: self.names }, alloc, value, "column")?;
+        let test = read_test(alloc, value)?;
+        refuse_strangers(alloc, value, &["column", "among", "except", "between"])?;
+        Ok(Predicate { column, test })
     }
 }

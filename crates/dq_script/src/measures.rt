@@ -1,21 +1,21 @@
-ghost use Rattle.std.specs.Prelude.{◌≡◌, option_map};
+ghost use Rattle.std.specs.Prelude.{◌≡◌};
 ghost use Rattle.serde_json.specs.Data.{item};
-ghost use Rattle.dq_script.specs.Parts.{only};
 ghost use Rattle.serde_json.specs.View.{view, items_view};
-ghost use Rattle.dq_script.specs.Readings.{Answers};
-ghost use Rattle.dq_script.specs.Zones.{kind_of, measure_with, measure_by, rows_of, measure_in, measure_of};
+ghost use Rattle.dq_script.specs.Readings.{Answers, given};
+ghost use Rattle.dq_script.specs.Measures.{kind_of, column_by, measure_by, rows_of, measure_in, measure_of};
 
-use crate::arrays::Reads;
-use crate::fault::ScriptFault;
-use crate::names::{Names, column_at};
-use crate::parts::is_string;
+use crate::misfit::{Misfit, here};
+use crate::names::{Names, ReadsColumn};
+use crate::parts::{is_string, only};
+use crate::reads::{Reads, read_within};
 use dq_base::Measure;
 use serde_json::Value;
 use std::alloc::Global;
 
-// A measure that has a column.
+// A measure, without its column.
 #[derive(Clone, Copy)]
 pub enum Kind {
+    Rows,
     Count,
     Sum,
     Min,
@@ -24,10 +24,13 @@ pub enum Kind {
     Avg,
 }
 
-// The measure of a column, by its word.
+// The kind of a measure, by its word.
 fn kind_of(value: &Value) -> Option<Kind>
     ensures { result ≡ kind_of (view value.now) }
 {
+    if is_string(value, b"rows") {
+        return Some(Kind::Rows);
+    }
     if is_string(value, b"count") {
         return Some(Kind::Count);
     }
@@ -49,75 +52,78 @@ fn kind_of(value: &Value) -> Option<Kind>
     None
 }
 
-// The measure of this column.
-fn measure_with(kind: Kind, column: u32) -> Measure
-    ensures { result ≡ measure_with kind column }
-{
-    match kind {
-        Kind::Count => Measure::Count(column),
-        Kind::Sum => Measure::Sum(column),
-        Kind::Min => Measure::Min(column),
-        Kind::Max => Measure::Max(column),
-        Kind::Distinct => Measure::Distinct(column),
-        Kind::Avg => Measure::Avg(column),
+// Reads the kind of a measure.
+struct ReadsKind;
+
+impl Reads for ReadsKind {
+    type Out = Kind;
+
+    ghost reading = { λ s d. given (kind_of d) };
+
+    fn read(&self, alloc: Global, value: &Value) -> Result<Kind, Misfit> {
+        match kind_of(value) {
+            Some(kind) => Ok(kind),
+            None => Err(here(alloc)),
+        }
     }
 }
 
-// The measure of a column, which stands alone.
-fn measure_by(names: Names, rest: &[Value], kind: Kind) -> Option<Measure>
-    ensures { result ≡ (measure_by names.entry.names.now (items_view rest.now) kind).value }
+// The column of a measure, which stands alone behind the word.
+fn read_column(alloc: Global, names: Names, rest: &[Value]) -> Result<u32, Misfit>
+    ensures { Answers (column_by names.entry.names.now (items_view rest.now)) result }
 {
-    let column = column_at(names, only(rest)?)?;
-    Some(measure_with(kind, column))
-}
-
-// The one item.
-fn only(items: &[Value]) -> Option<&Value>
-    ensures { option_map (λ v. view v.now) result ≡ only (items_view items.now) }
-{
-    if items.len() == 1 {
-        Some(&items[0])
-    } else {
-        None
+    match only(rest) {
+        Some(column) => read_within(&ReadsColumn { names }, alloc, b"1", column),
+        None => Err(here(alloc)),
     }
 }
 
-// The count of rows, which is alone.
-fn rows_of(rest: &[Value]) -> Option<Measure>
-    ensures { result ≡ rows_of (items_view rest.now) }
+// The count of rows, which stands alone.
+fn read_rows(alloc: Global, rest: &[Value]) -> Result<Measure, Misfit>
+    ensures { Answers (given (rows_of (items_view rest.now))) result }
 {
     if rest.is_empty() {
-        Some(Measure::Rows)
+        Ok(Measure::Rows)
     } else {
-        None
+        Err(here(alloc))
+    }
+}
+
+// A measure, by its kind and what follows.
+fn read_by(alloc: Global, names: Names, rest: &[Value], kind: Kind) -> Result<Measure, Misfit>
+    ensures { Answers (measure_by names.entry.names.now (items_view rest.now) kind) result }
+{
+    if let Kind::Rows = kind {
+        return read_rows(alloc, rest);
+    }
+    let column = read_column(alloc, names, rest)?;
+    match kind {
+        Kind::Rows => Ok(Measure::Rows),
+        Kind::Count => Ok(Measure::Count(column)),
+        Kind::Sum => Ok(Measure::Sum(column)),
+        Kind::Min => Ok(Measure::Min(column)),
+        Kind::Max => Ok(Measure::Max(column)),
+        Kind::Distinct => Ok(Measure::Distinct(column)),
+        Kind::Avg => Ok(Measure::Avg(column)),
     }
 }
 
 // A measure, by its word and what follows.
-fn measure_at(names: Names, word: &Value, rest: &[Value]) -> Option<Measure>
-    ensures { result ≡ (measure_in names.entry.names.now (item (view word.now) (items_view rest.now))).value }
+fn read_from(alloc: Global, names: Names, word: &Value, rest: &[Value]) -> Result<Measure, Misfit>
+    ensures { Answers (measure_in names.entry.names.now (item (view word.now) (items_view rest.now))) result }
 {
-    if is_string(word, b"rows") {
-        return rows_of(rest);
-    }
-    measure_by(names, rest, kind_of(word)?)
+    let kind = read_within(&ReadsKind, alloc, b"0", word)?;
+    read_by(alloc, names, rest, kind)
 }
 
 // The measure of an array's items.
-fn measure_in(names: Names, items: &[Value]) -> Option<Measure>
-    ensures { result ≡ (measure_in names.entry.names.now (items_view items.now)).value }
+fn read_items(alloc: Global, names: Names, items: &[Value]) -> Result<Measure, Misfit>
+    ensures { Answers (measure_in names.entry.names.now (items_view items.now)) result }
 {
     if items.is_empty() {
-        return None;
+        return Err(here(alloc));
     }
-    measure_at(names, &items[0], &items[1..])
-}
-
-// A measure.
-fn measure_of(names: Names, value: &Value) -> Option<Measure>
-    ensures { result ≡ (measure_of names.entry.names.now (view value.now)).value }
-{
-    measure_in(names, value.as_array()?.as_slice())
+    read_from(alloc, names, &items[0], &items[1..])
 }
 
 // Reads a measure of columns of these names.
@@ -129,12 +135,12 @@ pub struct ReadsMeasure<'a> {
 impl<'a> Reads for ReadsMeasure<'a> {
     type Out = Measure;
 
-    ghost reading = { λ s d. (measure_of s.names.names.now d).value };
+    ghost reading = { λ s. measure_of s.names.names.now };
 
-    fn read(&self, _alloc: Global, value: &Value) -> Result<Measure, ScriptFault> {
-        match measure_of(self.names, value) {
-            Some(measure) => Ok(measure),
-            None => Err(ScriptFault::Unbuilt),
+    fn read(&self, alloc: Global, value: &Value) -> Result<Measure, Misfit> {
+        match value.as_array() {
+            Some(items) => read_items(alloc, self.names, items.as_slice()),
+            None => Err(here(alloc)),
         }
     }
 }

@@ -1,10 +1,14 @@
 ghost use Rattle.std.specs.Prelude.{◌≡◌, ◌≤◌, length};
 ghost use Rattle.serde_json.specs.View.{view};
-ghost use Rattle.dq_script.specs.Filters.{column_at};
+ghost use Rattle.dq_script.specs.Filters.{column_in};
+ghost use Rattle.dq_script.specs.Parts.{place_in};
 
+use crate::misfit::{Misfit, here};
 use crate::parts::place_in;
+use crate::reads::Reads;
 use dq_base::Text;
 use serde_json::Value;
+use std::alloc::Global;
 
 // Names that are few enough to be numbered.
 #[derive(Clone, Copy)]
@@ -13,12 +17,28 @@ pub struct Names<'a> {
     ghost few: { length names.now ≤ 64 },
 }
 
-// The number of the one that a value names.
-pub fn column_at(names: Names, value: &Value) -> Option<u32>
-    ensures { result ≡ column_at names.entry.names.now (view value.now) }
+// The number of a column.
+pub fn number_of_column(names: Names, name: &[u8]) -> u32
+    ensures { result ≡ place_in names.entry.names.now name.now }
 {
-    match value.as_str() {
-        Some(name) => Some(place_in(names.names, name.as_bytes()) as u32),
-        None => None,
+    place_in(names.names, name) as u32
+}
+
+// Reads the number of the column that a value names.
+#[derive(Drop)]
+pub struct ReadsColumn<'a> {
+    pub names: Names<'a>,
+}
+
+impl<'a> Reads for ReadsColumn<'a> {
+    type Out = u32;
+
+    ghost reading = { λ s. column_in s.names.names.now };
+
+    fn read(&self, alloc: Global, value: &Value) -> Result<u32, Misfit> {
+        match value.as_str() {
+            Some(name) => Ok(number_of_column(self.names, name.as_bytes())),
+            None => Err(here(alloc)),
+        }
     }
 }

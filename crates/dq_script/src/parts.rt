@@ -1,11 +1,13 @@
-ghost use Rattle.std.specs.Prelude.{◌≡◌, ◌<◌, ◌≤◌, ◌^◌, length, option_map, position};
-ghost use Rattle.std.specs.List.{list_any};
+ghost use Rattle.std.specs.Prelude.{◌≡◌, ◌≤◌, length, option_map, position};
 ghost use Rattle.std.specs.Str.{bytes_eq};
+ghost use Rattle.serde_json.specs.Find.{as_str};
 ghost use Rattle.serde_json.specs.View.{view, items_view};
-ghost use Rattle.dq_script.specs.Readings.{Answers};
-ghost use Rattle.dq_script.specs.Parts.{is_string, string_of, new_name, two, two_items, some, some_items, whole_of, number_of, place_in, is_null};
+ghost use Rattle.dq_script.specs.Readings.{Answers, given};
+ghost use Rattle.dq_script.specs.Parts.{is_string, string_of, new_name, only, two, two_items, three, some, some_items, whole_of, number_of, place_in, is_null};
 
-use crate::fault::ScriptFault;
+use crate::misfit::{Misfit, here};
+use crate::places::Places;
+use crate::reads::Reads;
 use dq_base::Text;
 use serde_json::Value;
 use std::alloc::Global;
@@ -33,41 +35,88 @@ pub fn is_null(value: &Value) -> bool
     value.as_null().is_some()
 }
 
-// A copy of a string that isn't empty.
-pub fn read_string(alloc: Global, value: &Value) -> Result<Text, ScriptFault>
-    ensures { Answers (string_of (view value.now)) result }
+// A copy of a string.
+pub fn read_text(alloc: Global, value: &Value) -> Result<Text, Misfit>
+    ensures { Answers (given (as_str (view value.now))) result }
 {
     let Some(string) = value.as_str() else {
-        return Err(ScriptFault::Unbuilt);
+        return Err(here(alloc));
+    };
+    let text = Text::copy_of(alloc, string.as_bytes())?;
+    Ok(text)
+}
+
+// A copy of a string that isn't empty.
+pub fn read_string(alloc: Global, value: &Value) -> Result<Text, Misfit>
+    ensures { Answers (given (string_of (view value.now))) result }
+{
+    let Some(string) = value.as_str() else {
+        return Err(here(alloc));
     };
     if string.is_empty() {
-        return Err(ScriptFault::Unbuilt);
+        return Err(here(alloc));
     }
-    match Text::copy_of(alloc, string.as_bytes()) {
-        Ok(text) => Ok(text),
-        Err(_) => Err(ScriptFault::Memory),
+    let text = Text::copy_of(alloc, string.as_bytes())?;
+    Ok(text)
+}
+
+// Reads a string.
+#[derive(Drop)]
+pub struct ReadsText;
+
+impl Reads for ReadsText {
+    type Out = Text;
+
+    ghost reading = { λ s d. given (as_str d) };
+
+    fn read(&self, alloc: Global, value: &Value) -> Result<Text, Misfit> {
+        read_text(alloc, value)
     }
 }
 
-// Whether a text is among these.
-fn has_text(texts: &[Text], text: &[u8]) -> bool
-    ensures { result ≡ list_any (λ other. bytes_eq other text.now) texts.now }
-{
-    texts.iter().any(|other| other.bytes() == text)
+// Reads a string that isn't empty.
+#[derive(Drop)]
+pub struct ReadsString;
+
+impl Reads for ReadsString {
+    type Out = Text;
+
+    ghost reading = { λ s d. given (string_of d) };
+
+    fn read(&self, alloc: Global, value: &Value) -> Result<Text, Misfit> {
+        read_string(alloc, value)
+    }
 }
 
-// A copy of a string that isn't empty, and none of these. The cost is their number times its length.
-pub fn read_new_name(alloc: Global, earlier: &[Text], value: &Value) -> Result<Text, ScriptFault>
-    ensures { Answers (new_name earlier.now (view value.now)) result }
-{
-    let name = match read_string(alloc, value) {
-        Ok(name) => name,
-        Err(fault) => return Err(fault),
-    };
-    if has_text(earlier, name.bytes()) {
-        return Err(ScriptFault::Unbuilt);
+// Reads a string that isn't empty, and none of these.
+#[derive(Drop)]
+pub struct ReadsNewName<'a> {
+    pub earlier: &'a Places<Text>,
+}
+
+impl<'a> Reads for ReadsNewName<'a> {
+    type Out = Text;
+
+    ghost reading = { λ s d. given (new_name s.earlier.now d) };
+
+    fn read(&self, alloc: Global, value: &Value) -> Result<Text, Misfit> {
+        let name = read_string(alloc, value)?;
+        if !self.earlier.is_new(&name) {
+            return Err(here(alloc));
+        }
+        Ok(name)
     }
-    Ok(name)
+}
+
+// The one item.
+pub fn only(items: &[Value]) -> Option<&Value>
+    ensures { option_map (λ v. view v.now) result ≡ only (items_view items.now) }
+{
+    if items.len() == 1 {
+        Some(&items[0])
+    } else {
+        None
+    }
 }
 
 // The two items.
@@ -86,6 +135,17 @@ pub fn two_items(value: &Value) -> Option<(&Value, &Value)>
     ensures { option_map (λ p. (view p.0.now, view p.1.now)) result ≡ two_items (view value.now) }
 {
     two(value.as_array()?.as_slice())
+}
+
+// The three items.
+pub fn three(items: &[Value]) -> Option<(&Value, &Value, &Value)>
+    ensures { option_map (λ p. (view p.0.now, view p.1.now, view p.2.now)) result ≡ three (items_view items.now) }
+{
+    if items.len() == 3 {
+        Some((&items[0], &items[1], &items[2]))
+    } else {
+        None
+    }
 }
 
 // The items, where there are some.

@@ -1,218 +1,613 @@
 use super::*;
-use dq_base::{How, Measure, OrderKey, Predicate, Query, Script, Step, Test};
+use dq_base::{Bound, How, Limit, Measure, OrderKey, Predicate, Query, Script, Step, Test, Text};
 use std::alloc::{AllocError, Global};
 use std::test::Fail;
 
-const SCRIPT: &str =
-    r#"{"form":1,"extracts":[{"name":"sales","columns":[["region","text"],["year","whole"],["amount","whole"]]}],"lanes":[[{"publish":"sales","how":"replace","file":"sales.csv"},{"batch":[{"source":"sales","by":["region"],"show":[["sum","amount"],["rows"]]}]}]]}"#;
+// What is told of a script.
+#[derive(Clone, Copy)]
+enum Told {
+    Read,
+    NotJson,
+    Shape(&'static str),
+    Limit(Limit, u64),
+    Extract(&'static str),
+    Lane(&'static str),
+}
 
-const WHOLE: &str =
-    r#"{"form":1,"extracts":[{"name":"a","columns":[["t","text"],["n","whole"]]},{"name":"b","columns":[["u","whole"]]}],"literal":7,"clever":4096,"lanes":[[{"publish":"b","how":"append","file":"b.csv"},{"batch":[{"source":"a","filters":[{"column":"t","among":[null,"x",-3]},{"column":"n","except":[]},{"column":"n","between":[null,9]},{"column":"z","between":[-5,null]}],"by":["n","t"],"show":[["rows"],["count","t"],["sum","n"],["min","n"],["max","t"],["countd","t"],["avg","n"]],"order":[[0,"up"],[4294967295,"down"]],"top":0},{"source":"c","filters":[{"column":"t","among":[]}],"by":["n"],"show":[["sum","n"]]}]}],[]],"schedule":[2,1,1],"faults":[{"lane":2,"links":[0,3],"dials":[1]}]}"#;
+// Whether this is what is told.
+fn tells(answer: &Result<Script, ScriptFault>, told: Told) -> bool {
+    match (answer, told) {
+        (Ok(_), Told::Read) => true,
+        (Err(ScriptFault::NotJson), Told::NotJson) => true,
+        (Err(ScriptFault::Shape(path)), Told::Shape(want)) => path.bytes() == want.as_bytes(),
+        (Err(ScriptFault::Limit(limit, value)), Told::Limit(want, number)) => {
+            *limit == want && *value == number
+        }
+        (Err(ScriptFault::UnknownExtract(path)), Told::Extract(want)) => {
+            path.bytes() == want.as_bytes()
+        }
+        (Err(ScriptFault::UnknownLane(path)), Told::Lane(want)) => path.bytes() == want.as_bytes(),
+        _ => false,
+    }
+}
 
-// What the script asks, and the same of a column that isn't there, between the least and the most whole number.
-const ASKED: &str = r#""by":["region"],"show":[["sum","amount"]"#;
+const FIRST: &str =
+    r#"{"form":1,"extracts":[{"name":"a","columns":[["t","text"],["n","whole"]]},{"name":"b","columns":[["u","whole"]]}],"literal":7,"clever":4096,"lanes":[[{"publish":"b","how":"append","file":"b.csv"},{"batch":[{"source":"a","filters":[{"column":"t","among":[null,"x",-3]},{"column":"n","except":[]},{"column":"n","between":[null,9]},{"column":"z","between":[-5,null]}],"by":[["band","n",5],"t",["band","z",1]],"show":[["rows"],["count","t"],["sum","n"],["min","n"],["max","t"],["countd","t"],["avg","n"]],"order":[[0,"up"],[4294967295,"down"]],"top":0},{"source":"c","filters":[{"column":"t","among":[]}],"by":["n"],"show":[["sum","n"]]}]}],[]],"schedule":[2,1,1],"faults":[{"lane":2,"links":[0,3],"dials":[1]}]}"#;
 
-const FURTHER: &str =
-    r#""filters":[{"column":"area","between":[-9223372036854775808,9223372036854775807]}],"by":["area","year"],"show":[["sum","area"]"#;
+const SECOND: &str =
+    r#"{"form":2,"extracts":[{"name":"a","columns":[["t","text"],["n","whole"]]}],"clever":9,"lanes":[[],[{"batch":[{"source":"a"},{"blend":[{"source":"a","by":["t",["band","n",5],"t","n"]},{"source":"a","by":[["band","n",5],"t"]}]}]},{"batch":[{"blend":[{"source":"a"},{"source":"a"}]},{"blend":[{"source":"b","by":["x"]},{"source":"a","by":["x"]}]}]}]],"sessions":[{"lane":2,"source":"a","filters":[{"column":"n","between":[1,null]}]},{"lane":1,"source":"a","filters":[{"column":"n","between":[1,null]}]}]}"#;
 
-// What stands in the script, what stands in its place, and whether that is a script.
-const SHAPES: [(&str, &str, bool); 44] = [
-    (r#""form":1"#, r#""form":2"#, false),
-    (r#""form":1"#, r#""form":1.0"#, false),
-    (r#""form":1"#, r#""form":"1""#, false),
-    (r#""form":1,"#, r#""#, false),
-    (r#""form":1"#, r#""rows":[],"form":1"#, false),
-    (r#""form":1"#, r#""schedule":[],"form":1"#, true),
-    (r#""form":1"#, r#""schedule":null,"form":1"#, false),
-    (r#""form":1"#, r#""form":1,"form":2"#, false),
-    (r#""name":"#, r#""rows":1,"name":"#, false),
-    (r#""publish":"#, r#""source":"sales","publish":"#, false),
-    (r#""publish":"#, r#""batch":[],"publish":"#, false),
-    (r#""publish":"sales","#, r#""#, false),
-    (r#""how":"replace","#, r#""#, false),
-    (r#""batch":"#, r#""top":1,"batch":"#, false),
-    (r#""source":"#, r#""filters":[],"source":"#, true),
-    (r#""source":"#, r#""top":1,"source":"#, true),
-    (r#"["year","whole"]"#, r#"["region","whole"]"#, false),
-    (r#"["year","whole"]"#, r#"["","whole"]"#, false),
-    (r#"["year","whole"]"#, r#"["year","number"]"#, false),
-    (r#"["year","whole"]"#, r#"["year"]"#, false),
-    (r#"["year","whole"]"#, r#"["year","whole","sum"]"#, false),
-    (r#"sales","columns"#, r#"","columns"#, false),
-    (r#""sales.csv""#, r#""""#, false),
-    (r#""how":"replace""#, r#""how":"append""#, true),
-    (r#""how":"replace""#, r#""how":"merge""#, false),
-    (r#""publish":"sales""#, r#""publish":"costs""#, false),
-    (r#""source":"sales""#, r#""source":"costs""#, true),
-    (r#""source":"sales""#, r#""source":1"#, false),
+// Scripts as a whole, and what is told of each.
+const WHOLE: [(&str, Told); 29] = [
+    (r#""#, Told::NotJson),
+    (r#"{"#, Told::NotJson),
+    (r#"1"#, Told::Shape("")),
+    (r#"[]"#, Told::Shape("")),
+    (r#"{}"#, Told::Shape("/form")),
+    (r#"{"form":3}"#, Told::Shape("/form")),
+    (r#"{"form":1.0}"#, Told::Shape("/form")),
+    (r#"{"form":"1"}"#, Told::Shape("/form")),
+    (r#"{"form":0}"#, Told::Shape("/form")),
+    (r#"{"form":1}"#, Told::Shape("/extracts")),
+    (r#"{"form":1,"extracts":[]}"#, Told::Shape("/lanes")),
     (
-        r#"{"source":"sales","by":["region"],"show":[["sum","amount"],["rows"]]}"#,
-        r#""#,
-        true,
-    ),
-    (r#""by":["region"]"#, r#""by":["region","year"]"#, true),
-    (r#""by":["region"]"#, r#""by":[]"#, true),
-    (r#""by":["region"]"#, r#""by":"region""#, false),
-    (r#"["sum","amount"]"#, r#"["count","year"]"#, true),
-    (r#"["sum","amount"]"#, r#"["rows","x"]"#, false),
-    (r#"["sum","amount"]"#, r#"["mean","x"]"#, false),
-    (r#"["sum","amount"]"#, r#"["sum"]"#, false),
-    (r#"["sum","amount"]"#, r#"[]"#, false),
-    (r#"[["sum","amount"],["rows"]]"#, r#"[]"#, true),
-    (r#""lanes":["#, r#""lanes":[[],"#, true),
-    (r#""lanes":[["#, r#""lanes":[[{"batch":[]},"#, true),
-    (r#""lanes":[["#, r#""lanes":[[{"how":"replace"},"#, false),
-    (r#""extracts":["#, r#""extracts":[1,"#, false),
-    (r#"]]}]}]]}"#, r#"]]}]}]]"#, false),
-    (r#"]]}]}]]}"#, r#"]]}]}]]}}"#, false),
-];
-
-const FILTERS: [(&str, &str, bool); 17] = [
-    (
-        "\"by\"",
-        r#""filters":[{"column":"year","among":[1]}],"by""#,
-        true,
+        r#"{"form":1,"extracts":[{"name":"a"}],"lanes":[]}"#,
+        Told::Shape("/extracts/0/columns"),
     ),
     (
-        "\"by\"",
-        r#""filters":[{"column":"year","among":[1.5]}],"by""#,
-        false,
+        r#"{"form":1,"extracts":[],"lanes":[],"zzz":0}"#,
+        Told::Shape("/zzz"),
     ),
     (
-        "\"by\"",
-        r#""filters":[{"column":"year","among":[9223372036854775807]}],"by""#,
-        true,
+        r#"{"form":1,"extracts":[],"lanes":[],"zz":0,"a/b~c":0}"#,
+        Told::Shape("/a~1b~0c"),
     ),
     (
-        "\"by\"",
-        r#""filters":[{"column":"year","among":[9223372036854775808]}],"by""#,
-        false,
+        r#"{"form":1,"extracts":[],"lanes":[],"schedule":[0]}"#,
+        Told::Shape("/schedule/0"),
     ),
     (
-        "\"by\"",
-        r#""filters":[{"column":"year","among":[-9223372036854775808]}],"by""#,
-        true,
+        r#"{"form":1,"extracts":[],"lanes":[],"schedule":null}"#,
+        Told::Shape("/schedule"),
     ),
     (
-        "\"by\"",
-        r#""filters":[{"column":"year","among":[-9223372036854775809]}],"by""#,
-        false,
+        r#"{"form":1,"extracts":[],"lanes":[],"schedule":[1]}"#,
+        Told::Lane("/schedule/0"),
     ),
     (
-        "\"by\"",
-        r#""filters":[{"column":"year","among":[1.0]}],"by""#,
-        false,
+        r#"{"form":1,"extracts":[],"lanes":[],"clever":4097}"#,
+        Told::Limit(Limit::Capacity, 4097),
     ),
     (
-        "\"by\"",
-        r#""filters":[{"column":"year","among":[1e3]}],"by""#,
-        false,
+        r#"{"form":1,"extracts":[],"lanes":[],"clever":4097,"literal":4098}"#,
+        Told::Limit(Limit::Capacity, 4098),
     ),
     (
-        "\"by\"",
-        r#""filters":[{"column":"year","between":[9223372036854775808,null]}],"by""#,
-        false,
+        r#"{"form":1,"extracts":[],"lanes":[],"literal":0}"#,
+        Told::Shape("/literal"),
     ),
     (
-        "\"by\"",
-        r#""filters":[{"column":"year","between":[null,1e3]}],"by""#,
-        false,
+        r#"{"form":1,"extracts":[],"lanes":[],"literal":4096}"#,
+        Told::Read,
     ),
     (
-        "\"by\"",
-        r#""filters":[{"column":"year","except":[true]}],"by""#,
-        false,
+        r#"{"form":2,"extracts":[],"lanes":[],"literal":0}"#,
+        Told::Shape("/literal"),
     ),
     (
-        "\"by\"",
-        r#""filters":[{"column":"year","among":[],"except":[]}],"by""#,
-        false,
-    ),
-    ("\"by\"", r#""filters":[{"column":"year"}],"by""#, false),
-    ("\"by\"", r#""filters":[{"among":[]}],"by""#, false),
-    (
-        "\"by\"",
-        r#""filters":[{"column":"year","between":[1]}],"by""#,
-        false,
+        r#"{"form":2,"extracts":[],"lanes":[],"literal":4194304}"#,
+        Told::Read,
     ),
     (
-        "\"by\"",
-        r#""filters":[{"column":"year","between":["1",2]}],"by""#,
-        false,
+        r#"{"form":2,"extracts":[],"lanes":[],"clever":4194305}"#,
+        Told::Limit(Limit::Capacity, 4194305),
     ),
     (
-        "\"by\"",
-        r#""filters":[{"column":"year","between":[1,2],"rows":1}],"by""#,
-        false,
+        r#"{"form":1,"extracts":[],"lanes":[[{"publish":"x","how":"append","file":"f"}]]}"#,
+        Told::Extract("/lanes/0/0/publish"),
+    ),
+    (r#"{"form":1,"extracts":[],"lanes":[]}"#, Told::Read),
+    (r#"{"form":2,"extracts":[],"lanes":[]}"#, Told::Read),
+    (
+        r#"{"form":1,"form":2,"extracts":[],"lanes":[],"sessions":[]}"#,
+        Told::Read,
+    ),
+    (
+        r#"{"form":1,"extracts":[],"lanes":[],"sessions":[]}"#,
+        Told::Shape("/sessions"),
     ),
 ];
 
-const NUMBERS: [(&str, &str, bool); 23] = [
-    ("\"form\"", r#""literal":0,"form""#, false),
-    ("\"form\"", r#""literal":1,"form""#, true),
-    ("\"form\"", r#""literal":4097,"form""#, false),
-    ("\"form\"", r#""clever":4097,"form""#, false),
-    ("\"form\"", r#""clever":4096,"form""#, true),
-    ("\"form\"", r#""schedule":[0],"form""#, false),
-    ("\"form\"", r#""schedule":[1,2],"form""#, false),
-    ("\"form\"", r#""faults":[{"lane":1}],"form""#, true),
-    ("\"form\"", r#""faults":[{"lane":2}],"form""#, false),
-    ("\"form\"", r#""faults":[{"lane":0}],"form""#, false),
+// Extracts and faults, and what is told of each.
+const PARTS: [(&str, Told); 17] = [
     (
-        "\"form\"",
-        r#""faults":[{"lane":1},{"lane":1}],"form""#,
-        false,
+        r#"{"form":1,"extracts":[1],"lanes":[]}"#,
+        Told::Shape("/extracts/0"),
     ),
     (
-        "\"form\"",
-        r#""faults":[{"lane":1,"dials":[0]}],"form""#,
-        false,
+        r#"{"form":1,"extracts":[{"name":"","columns":[]}],"lanes":[]}"#,
+        Told::Shape("/extracts/0/name"),
     ),
     (
-        "\"form\"",
-        r#""faults":[{"lane":1,"links":[-1]}],"form""#,
-        false,
-    ),
-    ("\"form\"", r#""faults":[{"dials":[1]}],"form""#, false),
-    (
-        "\"lanes\":[",
-        r#""faults":[{"lane":2},{"lane":1}],"lanes":[[],"#,
-        true,
+        r#"{"form":1,"extracts":[{"name":"a","columns":[]}],"lanes":[]}"#,
+        Told::Shape("/extracts/0/columns"),
     ),
     (
-        "\"lanes\":[",
-        r#""faults":[{"lane":2},{"lane":1},{"lane":2}],"lanes":[[],"#,
-        false,
+        r#"{"form":1,"extracts":[{"name":"a","columns":[["c"]]}],"lanes":[]}"#,
+        Told::Shape("/extracts/0/columns/0"),
     ),
-    ("\"form\"", r#""clever":1e3,"form""#, false),
-    ("\"form\"", r#""clever":9223372036854775808,"form""#, false),
-    ("\"by\"", r#""order":[[4294967295,"up"]],"by""#, true),
-    ("\"by\"", r#""order":[[4294967296,"up"]],"by""#, false),
-    ("\"by\"", r#""order":[[1,"left"]],"by""#, false),
-    ("\"by\"", r#""top":4294967296,"by""#, false),
-    ("\"by\"", r#""top":-1,"by""#, false),
+    (
+        r#"{"form":1,"extracts":[{"name":"a","columns":[["","text"]]}],"lanes":[]}"#,
+        Told::Shape("/extracts/0/columns/0/0"),
+    ),
+    (
+        r#"{"form":1,"extracts":[{"name":"a","columns":[["c","number"]]}],"lanes":[]}"#,
+        Told::Shape("/extracts/0/columns/0/1"),
+    ),
+    (
+        r#"{"form":1,"extracts":[{"name":"a","columns":[["c","text"],["d","text"],["c","text"]]}],"lanes":[]}"#,
+        Told::Shape("/extracts/0/columns/2/0"),
+    ),
+    (
+        r#"{"form":1,"extracts":[{"name":"a","columns":[["c","text"],["n","whole"]]},{"name":"a","columns":[["c","text"],["n","whole"]]}],"lanes":[]}"#,
+        Told::Shape("/extracts/1/name"),
+    ),
+    (
+        r#"{"form":1,"extracts":[{"name":"a","columns":[["c","text"]],"b":1}],"lanes":[]}"#,
+        Told::Shape("/extracts/0/b"),
+    ),
+    (
+        r#"{"form":1,"extracts":[],"lanes":[[],[]],"faults":[{}]}"#,
+        Told::Shape("/faults/0/lane"),
+    ),
+    (
+        r#"{"form":1,"extracts":[],"lanes":[[],[]],"faults":[{"lane":0}]}"#,
+        Told::Shape("/faults/0/lane"),
+    ),
+    (
+        r#"{"form":1,"extracts":[],"lanes":[[],[]],"faults":[{"lane":2},{"lane":1},{"lane":2}]}"#,
+        Told::Shape("/faults/2/lane"),
+    ),
+    (
+        r#"{"form":1,"extracts":[],"lanes":[[],[]],"faults":[{"lane":1,"dials":[1,0]}]}"#,
+        Told::Shape("/faults/0/dials/1"),
+    ),
+    (
+        r#"{"form":1,"extracts":[],"lanes":[[],[]],"faults":[{"lane":1,"links":[0,-1]}]}"#,
+        Told::Shape("/faults/0/links/1"),
+    ),
+    (
+        r#"{"form":1,"extracts":[],"lanes":[[],[]],"faults":[{"lane":1,"dial":1}]}"#,
+        Told::Shape("/faults/0/dial"),
+    ),
+    (
+        r#"{"form":1,"extracts":[],"lanes":[[],[]],"faults":[{"lane":2},{"lane":3}]}"#,
+        Told::Lane("/faults/1/lane"),
+    ),
+    (
+        r#"{"form":1,"extracts":[],"lanes":[[],[]],"faults":[{"lane":2},{"lane":1}]}"#,
+        Told::Read,
+    ),
 ];
 
-// What is repeated before what, how often, and whether that is a script.
-const COUNTS: [(&str, &str, u32, bool); 8] = [
-    ("\"columns\":[", "[\"c#\",\"text\"],", 61, true),
-    ("\"columns\":[", "[\"c#\",\"text\"],", 62, false),
+// Steps, and what is told of each.
+const STEPS: [(&str, Told); 11] = [
     (
-        "\"extracts\":[",
-        "{\"name\":\"e#\",\"columns\":[[\"c\",\"text\"]]},",
+        r#"{"form":1,"extracts":[{"name":"a","columns":[["c","text"],["n","whole"]]}],"lanes":[[],[1]]}"#,
+        Told::Shape("/lanes/1/0"),
+    ),
+    (
+        r#"{"form":1,"extracts":[{"name":"a","columns":[["c","text"],["n","whole"]]}],"lanes":[[],[{"how":"append"}]]}"#,
+        Told::Shape("/lanes/1/0"),
+    ),
+    (
+        r#"{"form":1,"extracts":[{"name":"a","columns":[["c","text"],["n","whole"]]}],"lanes":[[],[{"batch":1,"file":1}]]}"#,
+        Told::Shape("/lanes/1/0"),
+    ),
+    (
+        r#"{"form":1,"extracts":[{"name":"a","columns":[["c","text"],["n","whole"]]}],"lanes":[[],[{"publish":1}]]}"#,
+        Told::Shape("/lanes/1/0/publish"),
+    ),
+    (
+        r#"{"form":1,"extracts":[{"name":"a","columns":[["c","text"],["n","whole"]]}],"lanes":[[],[{"publish":"x"}]]}"#,
+        Told::Shape("/lanes/1/0/how"),
+    ),
+    (
+        r#"{"form":1,"extracts":[{"name":"a","columns":[["c","text"],["n","whole"]]}],"lanes":[[],[{"publish":"x","how":"merge"}]]}"#,
+        Told::Shape("/lanes/1/0/how"),
+    ),
+    (
+        r#"{"form":1,"extracts":[{"name":"a","columns":[["c","text"],["n","whole"]]}],"lanes":[[],[{"publish":"x","how":"append"}]]}"#,
+        Told::Shape("/lanes/1/0/file"),
+    ),
+    (
+        r#"{"form":1,"extracts":[{"name":"a","columns":[["c","text"],["n","whole"]]}],"lanes":[[],[{"publish":"x","how":"append","file":""}]]}"#,
+        Told::Shape("/lanes/1/0/file"),
+    ),
+    (
+        r#"{"form":1,"extracts":[{"name":"a","columns":[["c","text"],["n","whole"]]}],"lanes":[[],[{"publish":"x","how":"append","file":"f","by":1}]]}"#,
+        Told::Shape("/lanes/1/0/by"),
+    ),
+    (
+        r#"{"form":1,"extracts":[{"name":"a","columns":[["c","text"],["n","whole"]]}],"lanes":[[],[{"batch":[],"by":1}]]}"#,
+        Told::Shape("/lanes/1/0/by"),
+    ),
+    (
+        r#"{"form":1,"extracts":[{"name":"a","columns":[["c","text"],["n","whole"]]}],"lanes":[[],[{"batch":{}}]]}"#,
+        Told::Shape("/lanes/1/0/batch"),
+    ),
+];
+
+// Zones, and what is told of each.
+const ZONES: [(&str, Told); 32] = [
+    (
+        r#"{"form":1,"extracts":[{"name":"a","columns":[["c","text"],["n","whole"]]}],"lanes":[[],[{"batch":[[]]}]]}"#,
+        Told::Shape("/lanes/1/0/batch/0"),
+    ),
+    (
+        r#"{"form":1,"extracts":[{"name":"a","columns":[["c","text"],["n","whole"]]}],"lanes":[[],[{"batch":[{}]}]]}"#,
+        Told::Shape("/lanes/1/0/batch/0/source"),
+    ),
+    (
+        r#"{"form":1,"extracts":[{"name":"a","columns":[["c","text"],["n","whole"]]}],"lanes":[[],[{"batch":[{"source":1}]}]]}"#,
+        Told::Shape("/lanes/1/0/batch/0/source"),
+    ),
+    (
+        r#"{"form":1,"extracts":[{"name":"a","columns":[["c","text"],["n","whole"]]}],"lanes":[[],[{"batch":[{"source":"b"}]}]]}"#,
+        Told::Read,
+    ),
+    (
+        r#"{"form":1,"extracts":[{"name":"a","columns":[["c","text"],["n","whole"]]}],"lanes":[[],[{"batch":[{"source":"a","top":-1,"zap":1}]}]]}"#,
+        Told::Shape("/lanes/1/0/batch/0/top"),
+    ),
+    (
+        r#"{"form":1,"extracts":[{"name":"a","columns":[["c","text"],["n","whole"]]}],"lanes":[[],[{"batch":[{"source":"a","top":4294967296}]}]]}"#,
+        Told::Shape("/lanes/1/0/batch/0/top"),
+    ),
+    (
+        r#"{"form":1,"extracts":[{"name":"a","columns":[["c","text"],["n","whole"]]}],"lanes":[[],[{"batch":[{"source":"a","zap":1}]}]]}"#,
+        Told::Shape("/lanes/1/0/batch/0/zap"),
+    ),
+    (
+        r#"{"form":1,"extracts":[{"name":"a","columns":[["c","text"],["n","whole"]]}],"lanes":[[],[{"batch":[{"source":"a","order":[[0,"up"],[4294967296,"up"]]}]}]]}"#,
+        Told::Shape("/lanes/1/0/batch/0/order/1/0"),
+    ),
+    (
+        r#"{"form":1,"extracts":[{"name":"a","columns":[["c","text"],["n","whole"]]}],"lanes":[[],[{"batch":[{"source":"a","order":[[0,"left"]]}]}]]}"#,
+        Told::Shape("/lanes/1/0/batch/0/order/0/1"),
+    ),
+    (
+        r#"{"form":1,"extracts":[{"name":"a","columns":[["c","text"],["n","whole"]]}],"lanes":[[],[{"batch":[{"source":"a","order":[[0]]}]}]]}"#,
+        Told::Shape("/lanes/1/0/batch/0/order/0"),
+    ),
+    (
+        r#"{"form":1,"extracts":[{"name":"a","columns":[["c","text"],["n","whole"]]}],"lanes":[[],[{"batch":[{"source":"a","filters":[{"column":1}]}]}]]}"#,
+        Told::Shape("/lanes/1/0/batch/0/filters/0"),
+    ),
+    (
+        r#"{"form":1,"extracts":[{"name":"a","columns":[["c","text"],["n","whole"]]}],"lanes":[[],[{"batch":[{"source":"a","filters":[{"among":[],"except":[]}]}]}]]}"#,
+        Told::Shape("/lanes/1/0/batch/0/filters/0"),
+    ),
+    (
+        r#"{"form":1,"extracts":[{"name":"a","columns":[["c","text"],["n","whole"]]}],"lanes":[[],[{"batch":[{"source":"a","filters":[{"among":[]}]}]}]]}"#,
+        Told::Shape("/lanes/1/0/batch/0/filters/0/column"),
+    ),
+    (
+        r#"{"form":1,"extracts":[{"name":"a","columns":[["c","text"],["n","whole"]]}],"lanes":[[],[{"batch":[{"source":"a","filters":[{"column":"c","among":[null,"x",1.5]}]}]}]]}"#,
+        Told::Shape("/lanes/1/0/batch/0/filters/0/among/2"),
+    ),
+    (
+        r#"{"form":1,"extracts":[{"name":"a","columns":[["c","text"],["n","whole"]]}],"lanes":[[],[{"batch":[{"source":"a","filters":[{"column":"c","among":[9223372036854775808]}]}]}]]}"#,
+        Told::Shape("/lanes/1/0/batch/0/filters/0/among/0"),
+    ),
+    (
+        r#"{"form":1,"extracts":[{"name":"a","columns":[["c","text"],["n","whole"]]}],"lanes":[[],[{"batch":[{"source":"a","filters":[{"column":"c","among":[9223372036854775807,-9223372036854775808]}]}]}]]}"#,
+        Told::Read,
+    ),
+    (
+        r#"{"form":1,"extracts":[{"name":"a","columns":[["c","text"],["n","whole"]]}],"lanes":[[],[{"batch":[{"source":"a","filters":[{"column":"c","except":1}]}]}]]}"#,
+        Told::Shape("/lanes/1/0/batch/0/filters/0/except"),
+    ),
+    (
+        r#"{"form":1,"extracts":[{"name":"a","columns":[["c","text"],["n","whole"]]}],"lanes":[[],[{"batch":[{"source":"a","filters":[{"column":"c","between":[1]}]}]}]]}"#,
+        Told::Shape("/lanes/1/0/batch/0/filters/0/between"),
+    ),
+    (
+        r#"{"form":1,"extracts":[{"name":"a","columns":[["c","text"],["n","whole"]]}],"lanes":[[],[{"batch":[{"source":"a","filters":[{"column":"c","between":[null,"1"]}]}]}]]}"#,
+        Told::Shape("/lanes/1/0/batch/0/filters/0/between/1"),
+    ),
+    (
+        r#"{"form":1,"extracts":[{"name":"a","columns":[["c","text"],["n","whole"]]}],"lanes":[[],[{"batch":[{"source":"a","filters":[{"column":"c","between":[1,2],"a":1}]}]}]]}"#,
+        Told::Shape("/lanes/1/0/batch/0/filters/0/a"),
+    ),
+    (
+        r#"{"form":1,"extracts":[{"name":"a","columns":[["c","text"],["n","whole"]]}],"lanes":[[],[{"batch":[{"source":"a","show":[[]]}]}]]}"#,
+        Told::Shape("/lanes/1/0/batch/0/show/0"),
+    ),
+    (
+        r#"{"form":1,"extracts":[{"name":"a","columns":[["c","text"],["n","whole"]]}],"lanes":[[],[{"batch":[{"source":"a","show":[["mean","c","d"]]}]}]]}"#,
+        Told::Shape("/lanes/1/0/batch/0/show/0/0"),
+    ),
+    (
+        r#"{"form":1,"extracts":[{"name":"a","columns":[["c","text"],["n","whole"]]}],"lanes":[[],[{"batch":[{"source":"a","show":[["rows","c"]]}]}]]}"#,
+        Told::Shape("/lanes/1/0/batch/0/show/0"),
+    ),
+    (
+        r#"{"form":1,"extracts":[{"name":"a","columns":[["c","text"],["n","whole"]]}],"lanes":[[],[{"batch":[{"source":"a","show":[["sum"]]}]}]]}"#,
+        Told::Shape("/lanes/1/0/batch/0/show/0"),
+    ),
+    (
+        r#"{"form":1,"extracts":[{"name":"a","columns":[["c","text"],["n","whole"]]}],"lanes":[[],[{"batch":[{"source":"a","show":[["rows"],["sum",1]]}]}]]}"#,
+        Told::Shape("/lanes/1/0/batch/0/show/1/1"),
+    ),
+    (
+        r#"{"form":1,"extracts":[{"name":"a","columns":[["c","text"],["n","whole"]]}],"lanes":[[],[{"batch":[{"source":"a","by":[1]}]}]]}"#,
+        Told::Shape("/lanes/1/0/batch/0/by/0"),
+    ),
+    (
+        r#"{"form":1,"extracts":[{"name":"a","columns":[["c","text"],["n","whole"]]}],"lanes":[[],[{"batch":[{"source":"a","by":["c",["band","n"]]}]}]]}"#,
+        Told::Shape("/lanes/1/0/batch/0/by/1"),
+    ),
+    (
+        r#"{"form":1,"extracts":[{"name":"a","columns":[["c","text"],["n","whole"]]}],"lanes":[[],[{"batch":[{"source":"a","by":[["bend","n",2]]}]}]]}"#,
+        Told::Shape("/lanes/1/0/batch/0/by/0/0"),
+    ),
+    (
+        r#"{"form":1,"extracts":[{"name":"a","columns":[["c","text"],["n","whole"]]}],"lanes":[[],[{"batch":[{"source":"a","by":[["band",1,2]]}]}]]}"#,
+        Told::Shape("/lanes/1/0/batch/0/by/0/1"),
+    ),
+    (
+        r#"{"form":1,"extracts":[{"name":"a","columns":[["c","text"],["n","whole"]]}],"lanes":[[],[{"batch":[{"source":"a","by":[["band","n",0]]}]}]]}"#,
+        Told::Shape("/lanes/1/0/batch/0/by/0/2"),
+    ),
+    (
+        r#"{"form":1,"extracts":[{"name":"a","columns":[["c","text"],["n","whole"]]}],"lanes":[[],[{"batch":[{"source":"a","by":[["band","n",4294967296]]}]}]]}"#,
+        Told::Shape("/lanes/1/0/batch/0/by/0/2"),
+    ),
+    (
+        r#"{"form":1,"extracts":[{"name":"a","columns":[["c","text"],["n","whole"]]}],"lanes":[[],[{"batch":[{"source":"a","by":[["band","n",4294967295]]}]}]]}"#,
+        Told::Read,
+    ),
+];
+
+// Blends, and what is told of each.
+const PAIRS: [(&str, Told); 12] = [
+    (
+        r#"{"form":1,"extracts":[{"name":"a","columns":[["c","text"],["n","whole"]]}],"lanes":[[],[{"batch":[{"blend":[{"source":"a"},{"source":"a"}]}]}]]}"#,
+        Told::Shape("/lanes/1/0/batch/0/source"),
+    ),
+    (
+        r#"{"form":2,"extracts":[{"name":"a","columns":[["c","text"],["n","whole"]]}],"lanes":[[],[{"batch":[{"blend":[{"source":"a"},{"source":"a"}]}]}]]}"#,
+        Told::Read,
+    ),
+    (
+        r#"{"form":2,"extracts":[{"name":"a","columns":[["c","text"],["n","whole"]]}],"lanes":[[],[{"batch":[{"blend":[{"source":"a"}]}]}]]}"#,
+        Told::Shape("/lanes/1/0/batch/0/blend"),
+    ),
+    (
+        r#"{"form":2,"extracts":[{"name":"a","columns":[["c","text"],["n","whole"]]}],"lanes":[[],[{"batch":[{"blend":{}}]}]]}"#,
+        Told::Shape("/lanes/1/0/batch/0/blend"),
+    ),
+    (
+        r#"{"form":2,"extracts":[{"name":"a","columns":[["c","text"],["n","whole"]]}],"lanes":[[],[{"batch":[{"blend":[{"blend":[]},1]}]}]]}"#,
+        Told::Shape("/lanes/1/0/batch/0/blend/0/source"),
+    ),
+    (
+        r#"{"form":2,"extracts":[{"name":"a","columns":[["c","text"],["n","whole"]]}],"lanes":[[],[{"batch":[{"blend":[{"source":"a"},{"source":"a","blend":[]}]}]}]]}"#,
+        Told::Shape("/lanes/1/0/batch/0/blend/1/blend"),
+    ),
+    (
+        r#"{"form":2,"extracts":[{"name":"a","columns":[["c","text"],["n","whole"]]}],"lanes":[[],[{"batch":[{"blend":[{"source":"a"},{"source":"a","by":["c",["band","n",5]]}]}]}]]}"#,
+        Told::Shape("/lanes/1/0/batch/0/blend/1/by/0"),
+    ),
+    (
+        r#"{"form":2,"extracts":[{"name":"a","columns":[["c","text"],["n","whole"]]}],"lanes":[[],[{"batch":[{"blend":[{"source":"a","by":["c",["band","n",5]]},{"source":"a"}]}]}]]}"#,
+        Told::Read,
+    ),
+    (
+        r#"{"form":2,"extracts":[{"name":"a","columns":[["c","text"],["n","whole"]]}],"lanes":[[],[{"batch":[{"blend":[{"source":"a","by":["c",["band","n",5]]},{"source":"a","by":["c",["band","n",5]]}]}]}]]}"#,
+        Told::Read,
+    ),
+    (
+        r#"{"form":2,"extracts":[{"name":"a","columns":[["c","text"],["n","whole"]]}],"lanes":[[],[{"batch":[{"blend":[{"source":"a","by":["c",["band","n",5]]},{"source":"a","by":[["band","n",4]]}]}]}]]}"#,
+        Told::Shape("/lanes/1/0/batch/0/blend/1/by/0"),
+    ),
+    (
+        r#"{"form":2,"extracts":[{"name":"a","columns":[["c","text"],["n","whole"]]}],"lanes":[[],[{"batch":[{"blend":[{"source":"a","by":["x"]},{"source":"a","by":["x","y"]}]}]}]]}"#,
+        Told::Shape("/lanes/1/0/batch/0/blend/1/by/1"),
+    ),
+    (
+        r#"{"form":2,"extracts":[{"name":"a","columns":[["c","text"],["n","whole"]]}],"lanes":[[],[{"batch":[{"blend":[{"source":"a"},{"source":"a"}],"source":1,"by":1}]}]]}"#,
+        Told::Shape("/lanes/1/0/batch/0/by"),
+    ),
+];
+
+// Sessions, and what is told of each.
+const SESSIONS: [(&str, Told); 10] = [
+    (
+        r#"{"form":2,"extracts":[{"name":"a","columns":[["c","text"],["n","whole"]]}],"lanes":[[],[]],"sessions":[{"lane":1,"source":"a","filters":[]}]}"#,
+        Told::Read,
+    ),
+    (
+        r#"{"form":2,"extracts":[{"name":"a","columns":[["c","text"],["n","whole"]]}],"lanes":[[],[]],"sessions":[{}]}"#,
+        Told::Shape("/sessions/0/lane"),
+    ),
+    (
+        r#"{"form":2,"extracts":[{"name":"a","columns":[["c","text"],["n","whole"]]}],"lanes":[[],[]],"sessions":[{"lane":1}]}"#,
+        Told::Shape("/sessions/0/source"),
+    ),
+    (
+        r#"{"form":2,"extracts":[{"name":"a","columns":[["c","text"],["n","whole"]]}],"lanes":[[],[]],"sessions":[{"lane":1,"source":"a"}]}"#,
+        Told::Shape("/sessions/0/filters"),
+    ),
+    (
+        r#"{"form":2,"extracts":[{"name":"a","columns":[["c","text"],["n","whole"]]}],"lanes":[[],[]],"sessions":[{"lane":1,"source":"a","filters":[]},{"lane":1,"source":"a","filters":[]}]}"#,
+        Told::Shape("/sessions/1/source"),
+    ),
+    (
+        r#"{"form":2,"extracts":[{"name":"a","columns":[["c","text"],["n","whole"]]}],"lanes":[[],[]],"sessions":[{"lane":1,"source":"a","filters":[]},{"lane":2,"source":"a","filters":[]}]}"#,
+        Told::Read,
+    ),
+    (
+        r#"{"form":2,"extracts":[{"name":"a","columns":[["c","text"],["n","whole"]]}],"lanes":[[],[]],"sessions":[{"lane":1,"source":"a","filters":[],"a":1}]}"#,
+        Told::Shape("/sessions/0/a"),
+    ),
+    (
+        r#"{"form":2,"extracts":[{"name":"a","columns":[["c","text"],["n","whole"]]}],"lanes":[[],[]],"sessions":[{"lane":1,"source":"x","filters":[]}]}"#,
+        Told::Extract("/sessions/0/source"),
+    ),
+    (
+        r#"{"form":2,"extracts":[{"name":"a","columns":[["c","text"],["n","whole"]]}],"lanes":[[],[]],"sessions":[{"lane":1,"source":"a","filters":[]},{"lane":3,"source":"a","filters":[]}]}"#,
+        Told::Lane("/sessions/1/lane"),
+    ),
+    (
+        r#"{"form":2,"extracts":[{"name":"a","columns":[["c","text"],["n","whole"]]}],"lanes":[[],[]],"sessions":[{"lane":1,"source":"a","filters":[{"column":"c","among":[1,true]}]}]}"#,
+        Told::Shape("/sessions/0/filters/0/among/1"),
+    ),
+];
+
+// What stands around a repeated text, how often it is repeated, and what is told of the whole.
+const COUNTS: [(&str, &str, &str, u32, Told); 20] = [
+    (
+        r#"{"form":1,"extracts":["#,
+        r#"{"name":"e#","columns":[["c","text"]]},"#,
+        r#"{"name":"e","columns":[["c","text"]]}],"lanes":[]}"#,
         63,
-        true,
+        Told::Read,
     ),
     (
-        "\"extracts\":[",
-        "{\"name\":\"e#\",\"columns\":[[\"c\",\"text\"]]},",
+        r#"{"form":1,"extracts":["#,
+        r#"{"name":"e#","columns":[["c","text"]]},"#,
+        r#"{"name":"e","columns":[["c","text"]]}],"lanes":[]}"#,
         64,
-        false,
+        Told::Limit(Limit::Extracts, 65),
     ),
-    ("\"batch\":[", "{\"source\":\"z\"},", 63, true),
-    ("\"batch\":[", "{\"source\":\"z\"},", 64, false),
-    ("\"lanes\":[", "[],", 63, true),
-    ("\"lanes\":[", "[],", 64, false),
+    (
+        r#"{"form":1,"extracts":[{"name":"e","columns":["#,
+        r#"["c#","text"],"#,
+        r#"["c","text"]]}],"lanes":[]}"#,
+        63,
+        Told::Read,
+    ),
+    (
+        r#"{"form":1,"extracts":[{"name":"e","columns":["#,
+        r#"["c#","text"],"#,
+        r#"["c","text"]]}],"lanes":[]}"#,
+        64,
+        Told::Limit(Limit::Columns, 65),
+    ),
+    (
+        r#"{"form":1,"extracts":[],"lanes":["#,
+        "[],",
+        "[]]}",
+        63,
+        Told::Read,
+    ),
+    (
+        r#"{"form":1,"extracts":[],"lanes":["#,
+        "[],",
+        "[]]}",
+        64,
+        Told::Limit(Limit::Lanes, 65),
+    ),
+    (
+        r#"{"form":1,"extracts":[],"lanes":[["#,
+        r#"{"batch":[]},"#,
+        r#"{"batch":[]}]]}"#,
+        4095,
+        Told::Read,
+    ),
+    (
+        r#"{"form":1,"extracts":[],"lanes":[["#,
+        r#"{"batch":[]},"#,
+        r#"{"batch":[]}]]}"#,
+        4096,
+        Told::Limit(Limit::Steps, 4097),
+    ),
+    (
+        r#"{"form":1,"extracts":[],"lanes":[[{"batch":["#,
+        r#"{"source":"z"},"#,
+        r#"{"source":"z"}]}]]}"#,
+        63,
+        Told::Read,
+    ),
+    (
+        r#"{"form":1,"extracts":[],"lanes":[[{"batch":["#,
+        r#"{"source":"z"},"#,
+        r#"{"source":"z"}]}]]}"#,
+        64,
+        Told::Limit(Limit::Zones, 65),
+    ),
+    (
+        r#"{"form":2,"extracts":[],"lanes":[[{"batch":["#,
+        r#"{"blend":[{"source":"z"},{"source":"z"}]},"#,
+        r#"{"source":"z"},{"source":"z"}]}]]}"#,
+        31,
+        Told::Read,
+    ),
+    (
+        r#"{"form":2,"extracts":[],"lanes":[[{"batch":["#,
+        r#"{"blend":[{"source":"z"},{"source":"z"}]},"#,
+        r#"{"source":"z"}]}]]}"#,
+        32,
+        Told::Limit(Limit::Zones, 65),
+    ),
+    (
+        r#"{"form":1,"extracts":[],"lanes":[[]],"faults":[{"lane":1,"dials":["#,
+        "1,",
+        "1]}]}",
+        4095,
+        Told::Read,
+    ),
+    (
+        r#"{"form":1,"extracts":[],"lanes":[[]],"faults":[{"lane":1,"dials":["#,
+        "1,",
+        "1]}]}",
+        4096,
+        Told::Limit(Limit::Faults, 4097),
+    ),
+    (
+        r#"{"form":1,"extracts":[],"lanes":[[]],"faults":[{"lane":1,"links":["#,
+        "0,",
+        "0]}]}",
+        4096,
+        Told::Limit(Limit::Faults, 4097),
+    ),
+    (
+        r#"{"form":2,"extracts":[{"name":"a","columns":[["n","whole"]]}],"lanes":[[]],"sessions":[{"lane":1,"source":"a","filters":[{"column":"n","among":["#,
+        "1,",
+        "1]}]}]}",
+        255,
+        Told::Read,
+    ),
+    (
+        r#"{"form":2,"extracts":[{"name":"a","columns":[["n","whole"]]}],"lanes":[[]],"sessions":[{"lane":1,"source":"a","filters":[{"column":"n","among":["#,
+        "1,",
+        "1]}]}]}",
+        256,
+        Told::Limit(Limit::SessionItems, 257),
+    ),
+    (
+        r#"{"form":2,"extracts":[{"name":"a","columns":[["n","whole"]]}],"lanes":[[]],"sessions":[{"lane":1,"source":"a","filters":[{"column":"n","among":["#,
+        r#""0123456789abcdef0123456789abcdef0","#,
+        r#""","0123456789abcdef0123456789abcdef"]}]}]}"#,
+        127,
+        Told::Read,
+    ),
+    (
+        r#"{"form":2,"extracts":[{"name":"a","columns":[["n","whole"]]}],"lanes":[[]],"sessions":[{"lane":1,"source":"a","filters":[{"column":"n","among":["#,
+        r#""0123456789abcdef0123456789abcdef0","#,
+        r#""","0123456789abcdef0123456789abcdef",null]}]}]}"#,
+        127,
+        Told::Limit(Limit::SessionItems, 257),
+    ),
+    (
+        r#"{"form":2,"extracts":[{"name":"a","columns":[["n","whole"]]}],"lanes":[[]],"sessions":[{"lane":1,"source":"a","filters":["#,
+        r#"{"column":"n","except":[]},"#,
+        r#"{"column":"n","between":[null,1]}]}]}"#,
+        256,
+        Told::Limit(Limit::SessionItems, 257),
+    ),
 ];
 
 // So many copies of a text, each with its number for the mark.
@@ -226,10 +621,80 @@ fn copies(alloc: Global, text: &str, count: u32) -> Result<String, AllocError> {
     Ok(all)
 }
 
-// Whether the script is one with this in place of that.
-fn is_built(alloc: Global, old: &str, new: &str) -> Result<bool, AllocError> {
-    let changed = SCRIPT.replace(alloc, old, new)?;
-    Ok(read(alloc, changed.as_bytes()).is_ok())
+#[test]
+fn tells_faults_of_whole_scripts(rt: HostRuntime) -> Result<(), Fail> {
+    let alloc = rt.alloc();
+    for (script, told) in WHOLE {
+        assert!(rt; tells(&read(alloc, script.as_bytes()), told), "{script}");
+    }
+    Ok(())
+}
+
+#[test]
+fn tells_faults_of_extracts_and_faults(rt: HostRuntime) -> Result<(), Fail> {
+    let alloc = rt.alloc();
+    for (script, told) in PARTS {
+        assert!(rt; tells(&read(alloc, script.as_bytes()), told), "{script}");
+    }
+    Ok(())
+}
+
+#[test]
+fn tells_faults_of_steps(rt: HostRuntime) -> Result<(), Fail> {
+    let alloc = rt.alloc();
+    for (script, told) in STEPS {
+        assert!(rt; tells(&read(alloc, script.as_bytes()), told), "{script}");
+    }
+    Ok(())
+}
+
+#[test]
+fn tells_faults_of_zones(rt: HostRuntime) -> Result<(), Fail> {
+    let alloc = rt.alloc();
+    for (script, told) in ZONES {
+        assert!(rt; tells(&read(alloc, script.as_bytes()), told), "{script}");
+    }
+    Ok(())
+}
+
+#[test]
+fn tells_faults_of_blends(rt: HostRuntime) -> Result<(), Fail> {
+    let alloc = rt.alloc();
+    for (script, told) in PAIRS {
+        assert!(rt; tells(&read(alloc, script.as_bytes()), told), "{script}");
+    }
+    Ok(())
+}
+
+#[test]
+fn tells_faults_of_sessions(rt: HostRuntime) -> Result<(), Fail> {
+    let alloc = rt.alloc();
+    for (script, told) in SESSIONS {
+        assert!(rt; tells(&read(alloc, script.as_bytes()), told), "{script}");
+    }
+    Ok(())
+}
+
+#[test]
+fn refuses_what_is_no_json(rt: HostRuntime) -> Result<(), Fail> {
+    let alloc = rt.alloc();
+    assert!(rt; tells(&read(alloc, &[b'['; 200]), Told::NotJson));
+    assert!(rt; tells(&read(alloc, &[b'"', 255, b'"']), Told::NotJson));
+    Ok(())
+}
+
+#[test]
+fn tests_each_limit(rt: HostRuntime) -> Result<(), Fail> {
+    let alloc = rt.alloc();
+    for (start, text, end, count, told) in COUNTS {
+        let more = copies(alloc, text, count)?;
+        let script = format!(in alloc; "{start}{}{end}", more.as_str())?;
+        assert!(rt;
+            tells(&read(alloc, script.as_bytes()), told),
+            "{count} of {text}"
+        );
+    }
+    Ok(())
 }
 
 // Whether the first step appends a file to the second extract.
@@ -250,6 +715,13 @@ fn zone(script: &Script, place: u64) -> Option<&Query> {
     match script.lanes.get(0)?.get(1)? {
         Step::Publish { .. } => None,
         Step::Batch(zones) => zones.get(place),
+    }
+}
+
+fn is_dim(query: &Query, place: u64, column: u32, width: u32) -> bool {
+    match query.dims.get(place) {
+        Some(dim) => dim.column() == column && dim.width() == width,
+        None => false,
     }
 }
 
@@ -311,15 +783,13 @@ fn has_order(query: &Query) -> bool {
         place: 4294967295,
         down: true,
     };
-    query.order.as_slice() == [first, last].as_slice()
-        && query.top == Some(0)
-        && query.dims.as_slice() == [1, 0].as_slice()
+    query.order.as_slice() == [first, last].as_slice() && query.top == Some(0)
 }
 
 // Whether a zone's source is unknown, and its columns are 0.
 fn is_unknown(query: &Query) -> bool {
     query.source == 2
-        && query.dims.as_slice() == [0].as_slice()
+        && is_dim(query, 0, 0, 1)
         && query.measures.as_slice() == [Measure::Sum(0)].as_slice()
         && query.top.is_none()
 }
@@ -331,51 +801,19 @@ fn fails(script: &Script, lane: u64, dials: &[u64], links: &[u64]) -> bool {
     }
 }
 
-#[test]
-fn tells_scripts_from_others(rt: HostRuntime) -> Result<(), Fail> {
-    let alloc = rt.alloc();
-    for (old, new, built) in SHAPES {
-        assert_eq!(rt; is_built(alloc, old, new)?, built, "{old} to {new}");
-    }
-    for text in ["", "{", "1", "[]"] {
-        assert!(rt; read(alloc, text.as_bytes()).is_err(), "{text}");
-    }
-    assert!(rt; read(alloc, &[b'['; 200]).is_err());
-    assert!(rt; read(alloc, &[b'"', 255, b'"']).is_err());
-    Ok(())
-}
-
-#[test]
-fn tests_filters_and_numbers(rt: HostRuntime) -> Result<(), Fail> {
-    let alloc = rt.alloc();
-    for (old, new, built) in FILTERS {
-        assert_eq!(rt; is_built(alloc, old, new)?, built, "{old} to {new}");
-    }
-    for (old, new, built) in NUMBERS {
-        assert_eq!(rt; is_built(alloc, old, new)?, built, "{old} to {new}");
-    }
-    Ok(())
-}
-
-#[test]
-fn counts_items(rt: HostRuntime) -> Result<(), Fail> {
-    let alloc = rt.alloc();
-    for (before, text, count, built) in COUNTS {
-        let more = copies(alloc, text, count)?;
-        let begun = format!(in alloc; "{before}{}", more.as_str())?;
-        assert_eq!(rt;
-            is_built(alloc, before, begun.as_str())?,
-            built,
-            "{count} of {text}"
-        );
-    }
-    Ok(())
-}
-
 fn is_first_read(script: &Script) -> bool {
     match zone(script, 0) {
         Some(query) => {
             has_lists(query) && has_ranges(query) && has_measures(query) && has_order(query)
+        }
+        None => false,
+    }
+}
+
+fn is_grouped(script: &Script) -> bool {
+    match zone(script, 0) {
+        Some(query) => {
+            is_dim(query, 0, 1, 5) && is_dim(query, 1, 0, 1) && is_dim(query, 2, 2, 1)
         }
         None => false,
     }
@@ -388,76 +826,106 @@ fn is_second_read(script: &Script) -> bool {
     }
 }
 
-// Whether the column that isn't there has the number of columns, in a filter, a dimension and a measure.
-fn is_further(query: &Query) -> bool {
-    let Some(filter) = query.filters.get(0) else {
-        return false;
-    };
-    is_between(
-        filter,
-        3,
-        Some(-9223372036854775808),
-        Some(9223372036854775807),
-    ) && query.dims.as_slice() == [3, 1].as_slice()
-        && query.measures.as_slice() == [Measure::Sum(3), Measure::Rows].as_slice()
-}
-
-fn is_further_read(script: &Script) -> bool {
-    match zone(script, 0) {
-        Some(query) => query.source == 0 && is_further(query),
-        None => false,
-    }
-}
-
 fn has_sizes(script: &Script) -> bool {
-    script.literal == 7
-        && script.clever == 4096
+    script.literal == Bound::Entries(7)
+        && script.clever == Bound::Entries(4096)
         && script.names.len() == 2
         && script.lanes.len() == 2
-}
-
-fn has_turns(script: &Script) -> bool {
-    script.schedule.as_slice() == [2, 1, 1].as_slice()
+        && script.blends.len() == 0
+        && script.sessions.len() == 0
 }
 
 #[test]
-fn reads_whole_scripts(rt: HostRuntime) -> Result<(), Fail> {
+fn reads_the_first_form(rt: HostRuntime) -> Result<(), Fail> {
     let alloc = rt.alloc();
-    let script = read(alloc, WHOLE.as_bytes())?;
+    let script = read(alloc, FIRST.as_bytes())?;
     assert!(rt; is_first_read(&script));
+    assert!(rt; is_grouped(&script));
     assert!(rt; is_second_read(&script));
     assert!(rt; appends(&script));
     assert!(rt; has_sizes(&script));
-    assert!(rt; has_turns(&script));
+    assert!(rt; script.schedule.as_slice() == [2, 1, 1].as_slice());
     assert!(rt; fails(&script, 0, &[], &[]));
     assert!(rt; fails(&script, 1, &[1], &[0, 3]));
     assert!(rt; !wants_no_fault(&script));
     Ok(())
 }
 
+// Whether a blend stands in the script so.
+fn is_blend(script: &Script, place: u64, step: u32, zone: u32, links: &[u32]) -> bool {
+    match script.blends.get(place) {
+        Some(blend) => {
+            blend.lane == 2
+                && blend.step == step
+                && blend.zone == zone
+                && blend.links.as_slice() == links
+        }
+        None => false,
+    }
+}
+
+// Whether a session stands in the script so, with the filter on the second column.
+fn is_session(script: &Script, place: u64, lane: u32) -> bool {
+    let Some(session) = script.sessions.get(place) else {
+        return false;
+    };
+    match session.filters.get(0) {
+        Some(filter) => {
+            session.lane == lane && session.source == 0 && is_between(filter, 1, Some(1), None)
+        }
+        None => false,
+    }
+}
+
 #[test]
-fn numbers_unknown_columns(rt: HostRuntime) -> Result<(), Fail> {
+fn reads_the_second_form(rt: HostRuntime) -> Result<(), Fail> {
     let alloc = rt.alloc();
-    let further = SCRIPT.replace(alloc, ASKED, FURTHER)?;
-    let script = read(alloc, further.as_bytes())?;
-    assert!(rt; is_further_read(&script));
+    let script = read(alloc, SECOND.as_bytes())?;
+    assert!(rt; script.literal == Bound::Cells(1048576));
+    assert!(rt; script.clever == Bound::Cells(9));
+    assert!(rt; is_blend(&script, 0, 1, 2, &[2, 1]));
+    assert!(rt; is_blend(&script, 1, 2, 1, &[]));
+    assert!(rt; is_blend(&script, 2, 2, 3, &[1]));
+    assert!(rt; script.blends.len() == 3);
+    assert!(rt; is_session(&script, 0, 2));
+    assert!(rt; is_session(&script, 1, 1));
+    assert!(rt; wants_no_fault(&script));
+    Ok(())
+}
+
+// What a fault says of itself.
+fn said(alloc: Global, fault: ScriptFault) -> Result<String, AllocError> {
+    format!(in alloc; "{fault}")
+}
+
+#[test]
+fn says_each_fault_in_words(rt: HostRuntime) -> Result<(), Fail> {
+    let alloc = rt.alloc();
+    let shape = ScriptFault::Shape(Text::new(alloc));
+    let extract = ScriptFault::UnknownExtract(Text::new(alloc));
+    let lane = ScriptFault::UnknownLane(Text::new(alloc));
+    let limit = ScriptFault::Limit(Limit::Zones, 65);
+    assert_eq!(rt; said(alloc, ScriptFault::NotJson)?.as_str(), "not json");
+    assert_eq!(rt; said(alloc, shape)?.as_str(), "shape");
+    assert_eq!(rt; said(alloc, limit)?.as_str(), "limit");
+    assert_eq!(rt; said(alloc, extract)?.as_str(), "unknown extract");
+    assert_eq!(rt; said(alloc, lane)?.as_str(), "unknown lane");
+    assert_eq!(rt; said(alloc, ScriptFault::Memory)?.as_str(), "out of memory");
     Ok(())
 }
 
 #[test]
 fn knows_wanted_faults(rt: HostRuntime) -> Result<(), Fail> {
     let alloc = rt.alloc();
-    let script = read(alloc, SCRIPT.as_bytes())?;
-    assert!(rt; wants_no_fault(&script));
-    assert!(rt; script.literal == 64 && script.clever == 64);
     for (fault, none) in [
         ("", true),
         (",\"dials\":[1]", false),
         (",\"links\":[0]", false),
     ] {
-        let faults = format!(in alloc; "\"faults\":[{{\"lane\":1{fault}}}],\"form\"")?;
-        let wanting = SCRIPT.replace(alloc, "\"form\"", faults.as_str())?;
-        assert_eq!(rt; wants_no_fault(&read(alloc, wanting.as_bytes())?), none);
+        let script = format!(in alloc;
+            "{{\"form\":1,\"extracts\":[],\"lanes\":[[]],\"faults\":[{{\"lane\":1{fault}}}]}}"
+        )?;
+        assert_eq!(rt; wants_no_fault(&read(alloc, script.as_bytes())?), none);
     }
     Ok(())
 }

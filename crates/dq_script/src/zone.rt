@@ -1,40 +1,28 @@
-ghost use Rattle.std.specs.Prelude.{◌≡◌, [], None, option_map, codes};
+ghost use Rattle.std.specs.Prelude.{◌≡◌};
 ghost use Rattle.serde_json.specs.View.{view};
-ghost use Rattle.dq_script.specs.Arrays.{array_of};
-ghost use Rattle.dq_script.specs.Filters.{column_at, column_in, filter_of};
-ghost use Rattle.dq_script.specs.Objects.{wanted, optional};
-ghost use Rattle.dq_script.specs.Readings.{Answers, given};
-ghost use Rattle.dq_script.specs.Zones.{way_of, key_of, top_of, measure_of, source_at, asked_of, zone_with, zone_parts, zone_of};
+ghost use Rattle.dq_script.specs.Readings.{Answers, given, mapped};
+ghost use Rattle.dq_script.specs.Parts.{number_of, most_place};
+ghost use Rattle.dq_script.specs.Zones.{way_of, key_of, top_of, zone_with, asked_of, zone_over, zone_of};
 
-use crate::arrays::{Reads, read_array};
-use crate::fault::ScriptFault;
+use crate::arrays::ArrayOf;
+use crate::dims::{Groupings, ReadsGrouping, dims_of};
 use crate::filters::ReadsFilter;
-use crate::known::{Known, columns_at, source_at};
+use crate::known::{Known, ReadsSource, columns_at};
 use crate::measures::ReadsMeasure;
-use crate::names::{Names, column_at};
-use crate::objects::has_only;
+use crate::misfit::{Misfit, here};
+use crate::names::Names;
+use crate::objects::{is_object, refuse_strangers};
 use crate::parts::{MOST_PLACE, is_string, number_of, two_items};
-use dq_base::{Measures, Numbers, OrderKey, OrderKeys, Predicates, Query};
+use crate::reads::{Reads, read_optional, read_wanted, read_within};
+use dq_base::{Measures, OrderKey, OrderKeys, Predicates, Query};
 use serde_json::Value;
 use std::alloc::Global;
 
-// Reads the number of a column of these names.
+// A zone, and its dimensions as they are written.
 #[derive(Drop)]
-struct ReadsColumn<'a> {
-    names: Names<'a>,
-}
-
-impl<'a> Reads for ReadsColumn<'a> {
-    type Out = u32;
-
-    ghost reading = { λ s d. column_at s.names.names.now d };
-
-    fn read(&self, _alloc: Global, value: &Value) -> Result<u32, ScriptFault> {
-        match column_at(self.names, value) {
-            Some(column) => Ok(column),
-            None => Err(ScriptFault::Unbuilt),
-        }
-    }
+pub struct Zone {
+    pub query: Query,
+    pub by: Groupings,
 }
 
 // Whether an order goes down, by its word.
@@ -50,14 +38,38 @@ fn way_of(value: &Value) -> Option<bool>
     None
 }
 
-// A key of an order.
-fn key_of(value: &Value) -> Option<OrderKey>
-    ensures { result ≡ (key_of (view value.now)).value }
-{
-    let (place, way) = two_items(value)?;
-    let place = number_of(place, 0, MOST_PLACE)? as u32;
-    let down = way_of(way)?;
-    Some(OrderKey { place, down })
+// Reads whether an order goes down.
+#[derive(Drop)]
+struct ReadsWay;
+
+impl Reads for ReadsWay {
+    type Out = bool;
+
+    ghost reading = { λ s d. given (way_of d) };
+
+    fn read(&self, alloc: Global, value: &Value) -> Result<bool, Misfit> {
+        match way_of(value) {
+            Some(down) => Ok(down),
+            None => Err(here(alloc)),
+        }
+    }
+}
+
+// Reads a number that names a place, from 0.
+#[derive(Drop)]
+struct ReadsPlace;
+
+impl Reads for ReadsPlace {
+    type Out = u32;
+
+    ghost reading = { λ s d. given (number_of 0 most_place d) };
+
+    fn read(&self, alloc: Global, value: &Value) -> Result<u32, Misfit> {
+        match number_of(value, 0, MOST_PLACE) {
+            Some(place) => Ok(place as u32),
+            None => Err(here(alloc)),
+        }
+    }
 }
 
 // Reads a key of an order.
@@ -67,117 +79,70 @@ struct ReadsKey;
 impl Reads for ReadsKey {
     type Out = OrderKey;
 
-    ghost reading = { λ s d. (key_of d).value };
+    ghost reading = { λ s. key_of };
 
-    fn read(&self, _alloc: Global, value: &Value) -> Result<OrderKey, ScriptFault> {
-        match key_of(value) {
-            Some(key) => Ok(key),
-            None => Err(ScriptFault::Unbuilt),
-        }
+    fn read(&self, alloc: Global, value: &Value) -> Result<OrderKey, Misfit> {
+        let Some((place, way)) = two_items(value) else {
+            return Err(here(alloc));
+        };
+        let place = read_within(&ReadsPlace, alloc, b"0", place)?;
+        let down = read_within(&ReadsWay, alloc, b"1", way)?;
+        Ok(OrderKey { place, down })
     }
 }
 
-// The filters of a zone.
-fn read_filters(alloc: Global, names: Names, zone: &Value) -> Result<Predicates, ScriptFault>
-    ensures { Answers (optional [] (codes "filters") (array_of (filter_of names.entry.names.now)) (view zone.now)).value result }
-{
-    match zone.get("filters") {
-        Some(filters) => read_array(&ReadsFilter { names }, alloc, filters),
-        None => Ok(Predicates::new(alloc)),
+// Reads how many rows are wanted.
+#[derive(Drop)]
+struct ReadsTop;
+
+impl Reads for ReadsTop {
+    type Out = Option<u32>;
+
+    ghost reading = { λ s. top_of };
+
+    fn read(&self, alloc: Global, value: &Value) -> Result<Option<u32>, Misfit> {
+        let top = ReadsPlace.read(alloc, value)?;
+        Ok(Some(top))
     }
 }
 
-// The columns by which a zone groups.
-fn read_dims(alloc: Global, names: Names, zone: &Value) -> Result<Numbers, ScriptFault>
-    ensures { Answers (optional [] (codes "by") (array_of (column_in names.entry.names.now)) (view zone.now)).value result }
+// What is asked of columns of these names.
+fn read_asked(alloc: Global, names: Names, zone: &Value, source: u32) -> Result<Zone, Misfit>
+    ensures { Answers (mapped (zone_with source) (asked_of names.entry.names.now (view zone.now))) result }
 {
-    match zone.get("by") {
-        Some(columns) => read_array(&ReadsColumn { names }, alloc, columns),
-        None => Ok(Numbers::new(alloc)),
-    }
-}
-
-// What a zone shows.
-fn read_measures(alloc: Global, names: Names, zone: &Value) -> Result<Measures, ScriptFault>
-    ensures { Answers (optional [] (codes "show") (array_of (measure_of names.entry.names.now)) (view zone.now)).value result }
-{
-    match zone.get("show") {
-        Some(measures) => read_array(&ReadsMeasure { names }, alloc, measures),
-        None => Ok(Measures::new(alloc)),
-    }
-}
-
-// The order of a zone.
-fn read_order(alloc: Global, zone: &Value) -> Result<OrderKeys, ScriptFault>
-    ensures { Answers (optional [] (codes "order") (array_of key_of) (view zone.now)).value result }
-{
-    match zone.get("order") {
-        Some(keys) => read_array(&ReadsKey, alloc, keys),
-        None => Ok(OrderKeys::new(alloc)),
-    }
-}
-
-// How many rows of a zone are wanted, where that is said.
-fn read_top(zone: &Value) -> Result<Option<u32>, ScriptFault>
-    ensures { Answers (optional None (codes "top") top_of (view zone.now)).value result }
-{
-    let Some(top) = zone.get("top") else {
-        return Ok(None);
+    let each_filter = ArrayOf {
+        item: ReadsFilter { names },
     };
-    match number_of(top, 0, MOST_PLACE) {
-        Some(top) => Ok(Some(top as u32)),
-        None => Err(ScriptFault::Unbuilt),
-    }
+    let each_grouping = ArrayOf {
+        item: ReadsGrouping { names },
+    };
+    let each_measure = ArrayOf {
+        item: ReadsMeasure { names },
+    };
+    let each_key = ArrayOf { item: ReadsKey };
+    let filters = read_optional(&each_filter, alloc, zone, "filters", Predicates::new(alloc))?;
+    let by = read_optional(&each_grouping, alloc, zone, "by", Groupings::new(alloc))?;
+    let measures = read_optional(&each_measure, alloc, zone, "show", Measures::new(alloc))?;
+    let order = read_optional(&each_key, alloc, zone, "order", OrderKeys::new(alloc))?;
+    let top = read_optional(&ReadsTop, alloc, zone, "top", None)?;
+    let dims = dims_of(alloc, by.as_slice())?;
+    let query = Query {
+        source,
+        filters,
+        dims,
+        measures,
+        order,
+        top,
+    };
+    Ok(Zone { query, by })
 }
 
-// What is asked of an extract by its number, whose columns have these names.
-fn read_query(alloc: Global, source: u32, names: Names, zone: &Value) -> Result<Query, ScriptFault>
-    ensures { Answers (option_map (zone_with source) (asked_of names.entry.names.now (view zone.now)).value) result }
+// What is asked of an extract by its number.
+fn read_over(alloc: Global, known: Known, zone: &Value, source: u32) -> Result<Zone, Misfit>
+    ensures { Answers (zone_over known.entry.extracts.now (view zone.now) source) result }
 {
-    let filters = match read_filters(alloc, names, zone) {
-        Ok(filters) => filters,
-        Err(fault) => return Err(fault),
-    };
-    let dims = match read_dims(alloc, names, zone) {
-        Ok(dims) => dims,
-        Err(fault) => return Err(fault),
-    };
-    let measures = match read_measures(alloc, names, zone) {
-        Ok(measures) => measures,
-        Err(fault) => return Err(fault),
-    };
-    let order = match read_order(alloc, zone) {
-        Ok(order) => order,
-        Err(fault) => return Err(fault),
-    };
-    match read_top(zone) {
-        Ok(top) => Ok(Query {
-            source,
-            filters,
-            dims,
-            measures,
-            order,
-            top,
-        }),
-        Err(fault) => Err(fault),
-    }
-}
-
-// The source of a zone.
-fn source_of(known: Known, zone: &Value) -> Option<u32>
-    ensures { result ≡ (wanted (codes "source") (λ s. given (source_at known.entry.extracts.now.names s)) (view zone.now)).value }
-{
-    source_at(known, zone.get("source")?)
-}
-
-// The source of a zone, and what is asked of it.
-fn read_parts(alloc: Global, known: Known, zone: &Value) -> Result<Query, ScriptFault>
-    ensures { Answers (zone_parts known.entry.extracts.now (view zone.now)).value result }
-{
-    let Some(source) = source_of(known, zone) else {
-        return Err(ScriptFault::Unbuilt);
-    };
-    read_query(alloc, source, columns_at(known, source), zone)
+    let names = columns_at(known, source);
+    read_asked(alloc, names, zone, source)
 }
 
 // Reads a zone over these extracts.
@@ -187,14 +152,21 @@ pub struct ReadsZone<'a> {
 }
 
 impl<'a> Reads for ReadsZone<'a> {
-    type Out = Query;
+    type Out = Zone;
 
-    ghost reading = { λ s d. (zone_of s.known.extracts.now d).value };
+    ghost reading = { λ s. zone_of s.known.extracts.now };
 
-    fn read(&self, alloc: Global, value: &Value) -> Result<Query, ScriptFault> {
-        if !has_only(value, &["source", "filters", "by", "show", "order", "top"]) {
-            return Err(ScriptFault::Unbuilt);
+    fn read(&self, alloc: Global, value: &Value) -> Result<Zone, Misfit> {
+        if !is_object(value) {
+            return Err(here(alloc));
         }
-        read_parts(alloc, self.known, value)
+        let source = read_wanted(&ReadsSource { known: self.known }, alloc, value, "source")?;
+        let zone = read_over(alloc, self.known, value, source)?;
+        refuse_strangers(
+            alloc,
+            value,
+            &["source", "filters", "by", "show", "order", "top"],
+        )?;
+        Ok(zone)
     }
 }
