@@ -90,29 +90,49 @@ fn among(alloc: Global, column: u32, value: Value) -> Result<Predicate, Memory> 
     Ok(Predicate { column, test })
 }
 
+fn of_east(alloc: Global) -> Result<Predicates, Memory> {
+    single(alloc, among(alloc, 0, word(alloc, b"East")?)?)
+}
+
+// Those of the east, but for a year.
+fn of_late_east(alloc: Global) -> Result<Predicates, Memory> {
+    let mut filters = of_east(alloc)?;
+    let test = Test::Except(single(alloc, Value::Int(2020))?);
+    filters.push(Predicate { column: 1, test })?;
+    Ok(filters)
+}
+
+fn of_small_amount(alloc: Global) -> Result<Predicates, Memory> {
+    let test = Test::Between(Some(4), Some(7));
+    single(alloc, Predicate { column: 2, test })
+}
+
+// How the rows that filters leave are spelled.
+fn seen(alloc: Global, sales: &Extract, filters: &Predicates) -> Result<Text, Memory> {
+    spelled(alloc, &visible(alloc, sales, filters)?)
+}
+
+fn check(
+    rt: &impl Abort,
+    alloc: Global,
+    sales: &Extract,
+    filters: &Predicates,
+    want: &[u8],
+) -> Result<(), Memory> {
+    assert_eq!(rt; seen(alloc, sales, filters)?.bytes(), want);
+    Ok(())
+}
+
 #[test]
 fn filters_leave_rows(rt: HostRuntime) -> Result<(), Fail> {
     let alloc = rt.alloc();
     let sales = published(&rt, alloc, SALES)?;
-    let mut filters = Predicates::new(alloc);
-    filters.push(among(alloc, 0, word(alloc, b"East")?)?)?;
-    let east = visible(alloc, &sales, &filters)?;
-    assert_eq!(rt;
-        spelled(alloc, &east)?.bytes(),
-        b"East 2020 10 ;East 2021 5 ;".as_slice()
-    );
-    let test = Test::Except(single(alloc, Value::Int(2020))?);
-    filters.push(Predicate { column: 1, test })?;
-    let east = visible(alloc, &sales, &filters)?;
-    assert_eq!(rt; spelled(alloc, &east)?.bytes(), b"East 2021 5 ;".as_slice());
-    let mut filters = Predicates::new(alloc);
-    let test = Test::Between(Some(4), Some(7));
-    filters.push(Predicate { column: 2, test })?;
-    let some = visible(alloc, &sales, &filters)?;
-    assert_eq!(rt;
-        spelled(alloc, &some)?.bytes(),
-        b"East 2021 5 ;West 2020 7 ;null 2021 4 ;".as_slice()
-    );
+    let east = b"East 2020 10 ;East 2021 5 ;";
+    check(&rt, alloc, &sales, &of_east(alloc)?, east)?;
+    let late = b"East 2021 5 ;";
+    check(&rt, alloc, &sales, &of_late_east(alloc)?, late)?;
+    let small = b"East 2021 5 ;West 2020 7 ;null 2021 4 ;";
+    check(&rt, alloc, &sales, &of_small_amount(alloc)?, small)?;
     filters_hide_the_rest();
     hidden_rows_change_nothing();
     Ok(())
