@@ -15,7 +15,7 @@ use Rattle.dq_extract.specs.Loads.{LoadedFiles}
 use Rattle.dq_journal.specs.Standing.{stand}
 use Rattle.dq_journal.specs.declared.entry.Entry.{Entry}
 use Rattle.dq_desk.proofs.Agreeing.{rows-at, stamp-at}
-use Rattle.dq_desk.specs.Kept.{standing, IsStanding, Parts, IsDesk}
+use Rattle.dq_desk.specs.Kept.{standing, IsStanding, Inner, IsDesk}
 use Rattle.dq_desk.specs.Machine.{after}
 use Rattle.dq_desk.specs.Preparing.{PreparedOf, no_reason, is_valid, IsPreparation}
 use Rattle.dq_desk.specs.Publishing.{rows_in, stamp_in}
@@ -95,7 +95,7 @@ AreStood-by l journal place versions stands (q ∷ queries) (s ∷ stood) h rows
   AreStood-by l journal place versions stands queries stood h rows stamps (λ i d within. have (suc i) d (omega arith)) are.1,
 )
 
-pub AreStood-desk : (l : LoadedFiles) (journal : List Entry) (p : Parts) (e : Entry) (journal' : List Entry) (place : ℕ) (queries : List Query) (stood : List StoodOf)
+pub AreStood-desk : (l : LoadedFiles) (journal : List Entry) (p : Inner) (e : Entry) (journal' : List Entry) (place : ℕ) (queries : List Query) (stood : List StoodOf)
     → IsDesk l journal p → journal' ≡ journal ++ e ∷ [] → place ≡ length journal' → HaveSources (length p.stands) queries → AreOf p.stands queries stood → AreStood l journal' place queries stood
 AreStood-desk l journal p e journal' place queries stood h is at have are =
     let last : place ≡ length (journal ++ e ∷ []) = at ∙ ap length is in

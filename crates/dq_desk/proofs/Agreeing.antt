@@ -73,49 +73,49 @@ last_place-push n [] x = one_place (nat_eq x n)
 last_place-push n (y ∷ xs) x = ap (behind (nat_eq y n)) (last_place-push n xs x) ∙ behind_if (nat_eq y n) (nat_eq x n) (length xs) (last_place n xs)
 
 -- the sources published so far are those of the versions
-record Follows (versions : List Publication) (done : List ℕ) : Type 0 where
+record Publishes (versions : List Publication) (done : List ℕ) : Type 0 where
   count : length versions ≡ length done
   stamps : (source : ℕ) → stamp_in versions source ≡ last_place source done
 
-follows_push : (versions : List Publication) (done : List ℕ) (k : ℕ) (rows : Rows) → Follows versions done → Follows (record { source = k; rows = rows } ∷ versions) (done ++ k ∷ [])
-follows_push versions done k rows h = record {
+publishes_push : (versions : List Publication) (done : List ℕ) (k : ℕ) (rows : Rows) → Publishes versions done → Publishes (record { source = k; rows = rows } ∷ versions) (done ++ k ∷ [])
+publishes_push versions done k rows h = record {
   count = omega (arith, h.count, length-append done (k ∷ []));
   stamps = λ source. rw (h.count, h.stamps source) (sym (last_place-push source done k));
 }
 
-follows_same : (versions : List Publication) (done : List ℕ) → Follows versions done → Follows versions (done ++ [])
-follows_same versions done h = rw (append-nil done) h
+publishes_same : (versions : List Publication) (done : List ℕ) → Publishes versions done → Publishes versions (done ++ [])
+publishes_same versions done h = rw (append-nil done) h
 
-follows_publish : (s : State) (lane number : ℕ) (new : Rows) (done : List ℕ) (o : Option Step) → Follows s.versions done → Follows (after_publish s lane number new o).versions (done ++ source_at o)
-follows_publish s lane number new done None h = follows_same s.versions done h
-follows_publish s lane number new done (Some (step.Publish k how file)) h = follows_push s.versions done k _ h
-follows_publish s lane number new done (Some (step.Batch zones)) h = follows_same s.versions done h
+publishes_publish : (s : State) (lane number : ℕ) (new : Rows) (done : List ℕ) (o : Option Step) → Publishes s.versions done → Publishes (after_publish s lane number new o).versions (done ++ source_at o)
+publishes_publish s lane number new done None h = publishes_same s.versions done h
+publishes_publish s lane number new done (Some (step.Publish k how file)) h = publishes_push s.versions done k _ h
+publishes_publish s lane number new done (Some (step.Batch zones)) h = publishes_same s.versions done h
 
-follows_next : (l : LoadedFiles) (s : State) (done : List ℕ) (e : Entry) → Follows s.versions done → Follows (next l s e).versions (done ++ source_published l e)
-follows_next l s done (Publish lane number) h = follows_publish s lane number _ done (step_of l.script.lanes lane number) h
-follows_next l s done (Admit lane number met) h = rw (admit_versions s lane number (step_of l.script.lanes lane number)) (follows_same s.versions done h)
-follows_next l s done (Lease lane flight link fresh) h = follows_same s.versions done h
-follows_next l s done (Give lane flight link ran runs calls) h = follows_same s.versions done h
-follows_next l s done (Lose lane flight link dialled ran runs calls) h = follows_same s.versions done h
-follows_next l s done (Land lane flight cells clever literal) h = follows_same s.versions done h
-follows_next l s done (Fall lane flight cause) h = follows_same s.versions done h
-follows_next l s done (Take lane flight started) h = follows_same s.versions done h
-follows_next l s done (End lane) h = follows_same s.versions done h
+publishes_next : (l : LoadedFiles) (s : State) (done : List ℕ) (e : Entry) → Publishes s.versions done → Publishes (next l s e).versions (done ++ source_published l e)
+publishes_next l s done (Publish lane number) h = publishes_publish s lane number _ done (step_of l.script.lanes lane number) h
+publishes_next l s done (Admit lane number met) h = rw (admit_versions s lane number (step_of l.script.lanes lane number)) (publishes_same s.versions done h)
+publishes_next l s done (Lease lane flight link fresh) h = publishes_same s.versions done h
+publishes_next l s done (Give lane flight link ran runs calls) h = publishes_same s.versions done h
+publishes_next l s done (Lose lane flight link dialled ran runs calls) h = publishes_same s.versions done h
+publishes_next l s done (Land lane flight cells clever literal) h = publishes_same s.versions done h
+publishes_next l s done (Fall lane flight cause) h = publishes_same s.versions done h
+publishes_next l s done (Take lane flight started) h = publishes_same s.versions done h
+publishes_next l s done (End lane) h = publishes_same s.versions done h
 
 append_append : {X : Type 0} (xs ys zs : List X) → (xs ++ ys) ++ zs ≡ xs ++ (ys ++ zs)
 append_append [] ys zs = refl
 append_append (x ∷ xs) ys zs = ap (λ rest. x ∷ rest) (append_append xs ys zs)
 
-follows_run : (l : LoadedFiles) (s : State) (done : List ℕ) (es : List Entry) → Follows s.versions done → Follows (run l s es).versions (done ++ sources_published l es)
-follows_run l s done [] h = follows_same s.versions done h
-follows_run l s done (e ∷ es) h = rw (← append_append done (source_published l e) (sources_published l es)) (follows_run l (next l s e) (done ++ source_published l e) es (follows_next l s done e h))
+publishes_run : (l : LoadedFiles) (s : State) (done : List ℕ) (es : List Entry) → Publishes s.versions done → Publishes (run l s es).versions (done ++ sources_published l es)
+publishes_run l s done [] h = publishes_same s.versions done h
+publishes_run l s done (e ∷ es) h = rw (← append_append done (source_published l e) (sources_published l es)) (publishes_run l (next l s e) (done ++ source_published l e) es (publishes_next l s done e h))
 
 -- a source's stamp in the state after a journal is the place of its latest publication among all
 pub stamp-after : (l : LoadedFiles) (journal : List Entry) (source : ℕ) → stamp_in (after l journal).versions source ≡ last_place source (sources_published l journal)
 unfolding after
 stamp-after l journal source =
-    let none : Follows [] [] = record { count = refl; stamps = λ k. refl } in
-    let whole : Follows (run l (start l) journal).versions ([] ++ sources_published l journal) = follows_run l (start l) [] journal none in
+    let none : Publishes [] [] = record { count = refl; stamps = λ k. refl } in
+    let whole : Publishes (run l (start l) journal).versions ([] ++ sources_published l journal) = publishes_run l (start l) [] journal none in
     whole.stamps source
 
 -- at the place of one more entry

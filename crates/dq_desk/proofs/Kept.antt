@@ -19,7 +19,7 @@ use Rattle.dq_desk.proofs.Bounds.{IsBounded-after}
 use Rattle.dq_desk.proofs.Machine.{Legal-nothing, Legal-push, after-push, after-works}
 use Rattle.dq_desk.proofs.Standing.{IsStanding-start, IsStanding-publish, CanRefresh-next}
 use Rattle.dq_desk.specs.Admitting.{after_admit, met_by, MayAdmit}
-use Rattle.dq_desk.specs.Kept.{no_stand, standing, need, room, Parts, Agrees, IsDesk}
+use Rattle.dq_desk.specs.Kept.{no_stand, standing, need, room, Inner, Agrees, IsDesk}
 use Rattle.dq_desk.specs.Machine.{next, run, after}
 use Rattle.dq_desk.specs.Publishing.{rows_in, after_publish, MayPublish}
 use Rattle.dq_desk.specs.Refreshing.{CanRefresh, RefreshedAt, IsRefresh}
@@ -37,7 +37,7 @@ needs [] = omega arith
 needs (w ∷ works) = omega (arith, needs works, need_one w.ended, sum_by-cons need w works)
 
 -- no more is owed than one entry for each lane
-pub owed_few : (l : LoadedFiles) (journal : List Entry) (p : Parts) → IsDesk l journal p → p.owed ≤ most_lanes
+pub owed_few : (l : LoadedFiles) (journal : List Entry) (p : Inner) → IsDesk l journal p → p.owed ≤ most_lanes
 owed_few l journal p h = omega (arith, needs (after l journal).works, after-works l journal, h.agrees.owes, h.loaded.script.lanes)
 
 room_same : (s : State) (lane : ℕ) (w : Work) → IsFree s lane → w.ended ≡ (work_of s lane).ended → sum_by need (slice_set s.works (lane - 1) w) ≡ room s
@@ -51,7 +51,7 @@ room_ended s lane free =
     omega (arith, sum_by-set need s.works (lane - 1) (record (work_of s lane) { ended = true }) no_work (omega (arith, free.from_one, free.is_lane)), one)
 
 -- a lane that is free owes its end
-pub owed_some : (l : LoadedFiles) (journal : List Entry) (p : Parts) (lane : ℕ) → IsDesk l journal p → IsFree (after l journal) lane → (1 ≤ p.owed) × (p.owed ≤ p.spare)
+pub owed_some : (l : LoadedFiles) (journal : List Entry) (p : Inner) (lane : ℕ) → IsDesk l journal p → IsFree (after l journal) lane → (1 ≤ p.owed) × (p.owed ≤ p.spare)
 owed_some l journal p lane h free = (omega (arith, room_ended (after l journal) lane free, h.agrees.owes), h.agrees.room)
 
 -- at first
@@ -72,7 +72,7 @@ IsDesk-new l spare owed stands loaded lanes fits is = record {
 
 -- the end of a lane
 
-pub IsDesk-end : (l : LoadedFiles) (journal : List Entry) (p : Parts) (lane spare : ℕ) (journal' : List Entry)
+pub IsDesk-end : (l : LoadedFiles) (journal : List Entry) (p : Inner) (lane spare : ℕ) (journal' : List Entry)
     → IsDesk l journal p → IsFree (after l journal) lane → p.spare ≤ spare + 1 → journal' ≡ journal ++ End lane ∷ []
     → IsDesk l journal' (record { spare = spare; owed = p.owed - 1; published = p.published; stands = p.stands })
 IsDesk-end l journal p lane spare journal' h free fits is =
@@ -90,14 +90,14 @@ IsDesk-end l journal p lane spare journal' h free fits is =
 
 -- an admission
 
-admitted_agrees : (l : LoadedFiles) (s : State) (p : Parts) (lane number spare : ℕ) (o : Option Step) → Agrees l s p → IsFree s lane → p.owed ≤ spare
+admitted_agrees : (l : LoadedFiles) (s : State) (p : Inner) (lane number spare : ℕ) (o : Option Step) → Agrees l s p → IsFree s lane → p.owed ≤ spare
     → Agrees l (after_admit s lane number o) (record { spare = spare; owed = p.owed; published = p.published; stands = p.stands })
 admitted_agrees l s p lane number spare None h free fits = record { versions = h.versions; standing = h.standing; owes = h.owes; room = fits }
 admitted_agrees l s p lane number spare (Some (step.Publish source how file)) h free fits = record { versions = h.versions; standing = h.standing; owes = h.owes; room = fits }
 admitted_agrees l s p lane number spare (Some (step.Batch zones)) h free fits =
     record { versions = h.versions; standing = h.standing; owes = h.owes ∙ sym (room_same s lane (record (work_of s lane) { last = number }) free refl); room = fits }
 
-pub IsDesk-admit : (l : LoadedFiles) (journal : List Entry) (p : Parts) (lane number spare : ℕ) (journal' : List Entry)
+pub IsDesk-admit : (l : LoadedFiles) (journal : List Entry) (p : Inner) (lane number spare : ℕ) (journal' : List Entry)
     → IsDesk l journal p → MayAdmit l (after l journal) lane number → p.owed ≤ spare → journal' ≡ journal ++ Admit lane number met_by ∷ []
     → IsDesk l journal' (record { spare = spare; owed = p.owed; published = p.published; stands = p.stands })
 IsDesk-admit l journal p lane number spare journal' h may fits is =
@@ -109,7 +109,7 @@ IsDesk-admit l journal p lane number spare journal' h may fits is =
 
 -- a publication
 
-refreshed_agrees : (l : LoadedFiles) (s : State) (p : Parts) (lane number spare source : ℕ) (how : How) (file : List ℕ) (v fresh : Version) (old : Option StoodOf)
+refreshed_agrees : (l : LoadedFiles) (s : State) (p : Inner) (lane number spare source : ℕ) (how : How) (file : List ℕ) (v fresh : Version) (old : Option StoodOf)
     → Agrees l s p → IsFree s lane → p.owed ≤ spare → slice_get p.stands source ≡ old → slice_get l.script.schemas source ≡ Some v.heading → RefreshedAt how old (Some v) fresh
     → Agrees l (after_publish s lane number v.rows (Some (step.Publish source how file)))
     (record { spare = spare; owed = p.owed; published = p.published + 1; stands = slice_set p.stands source (record { stamp = p.published + 1; extract = fresh }) })
@@ -127,7 +127,7 @@ refreshed_agrees l s p lane number spare source how file v fresh (Some old) h fr
       room = fits;
     }
 
-published_agrees : (l : LoadedFiles) (s : State) (p : Parts) (lane number spare source : ℕ) (o : Option Step) (found : Option Version) (fresh : Version)
+published_agrees : (l : LoadedFiles) (s : State) (p : Inner) (lane number spare source : ℕ) (o : Option Step) (found : Option Version) (fresh : Version)
     → Agrees l s p → IsFree s lane → p.owed ≤ spare → FitsStep l.script.schemas o found → IsRefresh p.stands o found source fresh
     → Agrees l (after_publish s lane number (version_rows found) o)
     (record { spare = spare; owed = p.owed; published = p.published + 1; stands = slice_set p.stands source (record { stamp = p.published + 1; extract = fresh }) })
@@ -137,7 +137,7 @@ published_agrees l s p lane number spare source (Some (step.Publish k how file))
 published_agrees l s p lane number spare source (Some (step.Publish k how file)) (Some v) fresh h free fits fit is =
     rw is.0 (refreshed_agrees l s p lane number spare k how file v fresh (slice_get p.stands k) h free fits refl fit is.1)
 
-pub IsDesk-publish : (l : LoadedFiles) (journal : List Entry) (p : Parts) (lane number spare source : ℕ) (fresh : Version) (journal' : List Entry)
+pub IsDesk-publish : (l : LoadedFiles) (journal : List Entry) (p : Inner) (lane number spare source : ℕ) (fresh : Version) (journal' : List Entry)
     → IsDesk l journal p → MayPublish l (after l journal) lane number → p.owed ≤ spare
     → IsRefresh p.stands (step_of l.script.lanes lane number) (segment_of l lane number) source fresh → journal' ≡ journal ++ Publish lane number ∷ []
     → IsDesk l journal' (record { spare = spare; owed = p.owed; published = p.published + 1; stands = slice_set p.stands source (record { stamp = p.published + 1; extract = fresh }) })
@@ -151,7 +151,7 @@ IsDesk-publish l journal p lane number spare source fresh journal' h may fits fr
     })
 
 -- what a publish step needs of what stands
-pub CanRefresh-desk : (l : LoadedFiles) (journal : List Entry) (p : Parts) (lane number : ℕ) → IsDesk l journal p → MayPublish l (after l journal) lane number
+pub CanRefresh-desk : (l : LoadedFiles) (journal : List Entry) (p : Inner) (lane number : ℕ) → IsDesk l journal p → MayPublish l (after l journal) lane number
     → CanRefresh p.stands (step_of l.script.lanes lane number) (segment_of l lane number)
 CanRefresh-desk l journal p lane number h may =
     CanRefresh-next l (after l journal) p.stands lane number h.loaded may (IsBounded-after l journal h.loaded h.legal) h.agrees.standing
@@ -193,6 +193,6 @@ run_more : (l : LoadedFiles) (s : State) (es : List Entry) → length (run l s e
 run_more l s [] = omega arith
 run_more l s (e ∷ es) = omega (arith, run_more l (next l s e) es, next_more l s e)
 
-pub published_few : (l : LoadedFiles) (journal : List Entry) (p : Parts) → IsDesk l journal p → p.published ≤ length journal
+pub published_few : (l : LoadedFiles) (journal : List Entry) (p : Inner) → IsDesk l journal p → p.published ≤ length journal
 unfolding after
 published_few l journal p h = omega (arith, run_more l (start l) journal, h.agrees.versions)

@@ -33,21 +33,21 @@ pub record IsStanding (schemas : List Heading) (versions : List Publication) (st
   pub count : length stands ≡ length schemas
   pub each : (source : ℕ) (heading : Heading) → slice_get schemas source ≡ Some heading → slice_get stands source ≡ Some (standing versions source heading)
 
--- the private parts of a desk
-pub record Parts : Type 0 where
+-- what a desk keeps beside the journal
+pub record Inner : Type 0 where
   pub spare : ℕ
   pub owed : ℕ
   pub published : ℕ
   pub stands : List StoodOf
 
--- the private parts are those of the state
-pub record Agrees (l : LoadedFiles) (s : State) (p : Parts) : Type 0 where
+-- what the desk keeps is that of the state
+pub record Agrees (l : LoadedFiles) (s : State) (p : Inner) : Type 0 where
   pub versions : p.published ≡ length s.versions
   pub standing : IsStanding l.script.schemas s.versions p.stands
   pub owes : p.owed ≡ room s
   pub room : p.owed ≤ p.spare
 
-pub record IsDesk (l : LoadedFiles) (journal : List Entry) (p : Parts) : Type 0 where
+pub record IsDesk (l : LoadedFiles) (journal : List Entry) (p : Inner) : Type 0 where
   pub loaded : IsLoaded l
   pub legal : Legal l journal
   pub agrees : Agrees l (after l journal) p

@@ -10,10 +10,10 @@ ghost use Rattle.dq_desk.specs.Publishing.{MayPublish};
 ghost use Rattle.dq_desk.specs.State.{IsFree};
 ghost use Rattle.dq_desk.specs.Stood.{AreStood, AreOf, HaveSources};
 
-use crate::prepared::{CanonOwners, Prepared};
+use crate::prepared::Prepared;
 use crate::refresh::{Refresh, refresh_by_step};
 use crate::stood::{Stood, Stoods};
-use dq_base::{Canon, Duplicate, List, Memory, Schemas};
+use dq_base::{Canon, Canons, Duplicate, List, Memory, Schemas};
 use dq_extract::{Extract, Loaded};
 use dq_journal::{Entry, Journal};
 use std::alloc::Global;
@@ -77,9 +77,9 @@ fn stood_of(stands: &[Stood], canon: &Canon) -> Result<Stood, Memory>
 }
 
 // What stands of the queries' sources, in order.
-fn all_stood(alloc: Global, stands: &[Stood], canons: &CanonOwners) -> Result<Stoods, Memory>
-    requires { HaveSources (length stands.now) (map arc_value canons.now) }
-    ensures { IfOk result (λ stood. AreOf stands.now (map arc_value canons.now) stood) }
+fn all_stood(alloc: Global, stands: &[Stood], canons: &Canons) -> Result<Stoods, Memory>
+    requires { HaveSources (length stands.now) canons.now }
+    ensures { IfOk result (λ stood. AreOf stands.now canons.now stood) }
 {
     let mut stood = List::new(alloc);
     for canon in canons.as_slice() {
@@ -117,8 +117,8 @@ impl Desk {
     }
 
     /// A publish step: its file's rows come in place of those that stand of its source, or behind them. Answers the place of
-    /// its entry, from 1. Rows are shared, not copied: the cost is linear in the number of segments that stand of the source,
-    /// and in that of the script's steps. An `Err` leaves the desk as it was.
+    /// its entry, from 1. Rows are shared, not copied: the cost is linear in the number of segments that stand of the source. An
+    /// `Err` leaves the desk as it was.
     pub fn publish(&mut self, alloc: Global, lane: u32, step: u32) -> Result<u64, Memory>
         requires { MayPublish self.old.loaded (after self.old.loaded self.old.journal) lane step }
         ensures entry { OnOk result (self.new.journal ≡ self.old.journal ++ Entry.Publish lane step ∷ []) }

@@ -28,7 +28,7 @@ mod steps;
 mod stood;
 
 pub use desk::{Admitted, Desk, Parts};
-pub use prepared::{CanonOwners, Prepared};
+pub use prepared::Prepared;
 pub use steps::step_at;
 pub use stood::{Stood, Stoods};
 

@@ -1,34 +1,27 @@
-ghost use Rattle.std.specs.Arc.{arc_value};
-ghost use Rattle.std.specs.Prelude.{◌≡◌, map};
+ghost use Rattle.std.specs.Prelude.{◌≡◌};
 
-use dq_base::{Canon, List, Numbers};
+use dq_base::{Canons, Numbers};
 use std::marker::Model;
-use std::sync::Arc;
-
-/// Shared canonical queries, in order.
-pub type CanonOwners = List<Arc<Canon>>;
 
 /// What is prepared of a batch before it is admitted: the valid zones' numbers, from 1, and their canonical queries.
 #[derive(Drop)]
 pub struct Prepared {
     pub zones: Numbers,
-    pub canons: CanonOwners,
+    pub canons: Canons,
 }
 
 impl Model for Prepared {
-    ghost use Rattle.std.specs.Arc.{arc_value};
-    ghost use Rattle.std.specs.Prelude.{map};
     ghost use Rattle.dq_desk.specs.Preparing.{PreparedOf};
 
     ghost Value = { PreparedOf };
 
-    ghost view = { λ p. record { zones = p.zones; canons = map arc_value p.canons } };
+    ghost view = { λ p. record { zones = p.zones; canons = p.canons } };
 }
 
 impl Prepared {
     /// These zones and queries.
-    pub fn new(zones: Numbers, canons: CanonOwners) -> Prepared
-        ensures { result ≡ record { zones = zones; canons = map arc_value canons } }
+    pub fn new(zones: Numbers, canons: Canons) -> Prepared
+        ensures { result ≡ record { zones = zones; canons = canons } }
     {
         Prepared { zones, canons }
     }
@@ -41,8 +34,8 @@ impl Prepared {
     }
 
     /// The zones' queries in canonical form.
-    pub fn canons(&self) -> &CanonOwners
-        ensures { map arc_value result.now ≡ self.now.canons }
+    pub fn canons(&self) -> &Canons
+        ensures { result.now ≡ self.now.canons }
     {
         &self.canons
     }

@@ -9,8 +9,8 @@ ghost use Rattle.dq_desk.specs.Worked.{rows_of, worked_lanes, worked_preparation
 
 use crate::{Desk, Prepared, Stood};
 use dq_base::{
-    Canon, Fails, FailsList, How, LaneSteps, List, Measure, Queries, Query, Schema, Schemas,
-    Script, Sort, Step, Steps, Text, Texts,
+    Bound, Canon, Canons, Fails, FailsList, How, LaneSteps, List, Measure, Queries, Query, Schema,
+    Schemas, Script, Sort, Step, Steps, Text, Texts,
 };
 use dq_extract::{Loaded, Segment, SegmentList, load};
 use dq_journal::Entry;
@@ -43,10 +43,13 @@ fn three_columns(rt: &impl Abort, alloc: Global) -> Schema
         word(rt, alloc, b"year"),
         word(rt, alloc, b"amount"),
     ];
-    Schema::new(
+    let sorts = [Sort::Word, Sort::Whole, Sort::Whole];
+    let schema = Schema::new(
+        alloc,
         list_of(rt, alloc, names),
-        list_of(rt, alloc, [Sort::Word, Sort::Whole, Sort::Whole]),
-    )
+        list_of(rt, alloc, sorts),
+    );
+    schema.ok().expect(rt, "memory")
 }
 
 // How many rows an extract has.
@@ -124,11 +127,13 @@ fn script(rt: &impl Abort, alloc: Global) -> Script
     Script {
         names,
         schemas,
-        literal: 1,
-        clever: 1,
+        literal: Bound::Entries(1),
+        clever: Bound::Cells(1),
         lanes: lanes(rt, alloc),
         schedule: List::new(alloc),
         fails,
+        sessions: List::new(alloc),
+        blends: List::new(alloc),
     }
 }
 
@@ -177,11 +182,10 @@ fn owner(rt: &impl Abort, alloc: Global, query: Query) -> Arc<Canon>
 fn prepared(rt: &impl Abort, alloc: Global) -> Prepared
     ensures { result ≡ worked_preparation }
 {
-    let canons = [
-        owner(rt, alloc, count_of(rt, alloc, 0)),
-        owner(rt, alloc, count_of(rt, alloc, 1)),
-    ];
-    Prepared::new(list_of(rt, alloc, [1, 3]), list_of(rt, alloc, canons))
+    let mut canons = Canons::new(alloc);
+    assert!(rt; canons.push(owner(rt, alloc, count_of(rt, alloc, 0))).is_ok());
+    assert!(rt; canons.push(owner(rt, alloc, count_of(rt, alloc, 1))).is_ok());
+    Prepared::new(list_of(rt, alloc, [1, 3]), canons)
 }
 
 // The stamp and the rows of each segment are these.

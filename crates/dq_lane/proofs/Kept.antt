@@ -1,12 +1,12 @@
 -- What a lane keeps, and what its events leave of it.
-use Rattle.std.proofs.Common.{◌≡◌, ℕ, zero, suc, ◌+◌, ◌<◌, ◌≤◌, true, false, List, [], ◌∷◌, ◌++◌, length, length-append, length-set, drop, slice_get, slice_set, Some, None, refl, ap, sym, ◌∙◌, arith, append_assoc, append-nil}
-use Rattle.std.proofs.lemmas.List.{drop-set-lt}
+use Rattle.std.proofs.Common.{◌≡◌, ℕ, zero, suc, ◌+◌, ◌<◌, ◌≤◌, true, false, List, [], ◌∷◌, ◌++◌, length, length-append, length-set, drop, take, take_all, slice_get, slice_set, Some, None, refl, ap, sym, ◌∙◌, arith, append_assoc, append-nil}
+use Rattle.std.proofs.lemmas.List.{drop-set-lt, length-take-le}
 use Rattle.std.proofs.lemmas.Option.{slice_get_within}
 use Rattle.std.specs.List.{flat_map, list_any}
 use Rattle.dq_base.specs.declared.script.Step.{Step}
 use Rattle.dq_extract.specs.Loads.{LoadedFiles, IsLoaded}
 use Rattle.dq_journal.specs.Journals.{lane_of}
-use Rattle.dq_journal.specs.Right.{EndsOnce, IsResult, done_from, entries_of, is_end, step_in, unless_refused}
+use Rattle.dq_journal.specs.Right.{AreResults, EndsOnce, IsResult, done_from, entries_of, is_end, step_in, unless_refused}
 use Rattle.dq_journal.specs.declared.entry.Entry.{Entry}
 use Rattle.dq_journal.specs.declared.entry.Entry.TheVariants.{End}
 use Rattle.dq_journal.specs.declared.result.StepResult.{StepResult}
@@ -15,7 +15,7 @@ use Rattle.dq_desk.specs.Machine.{after, Legal}
 use Rattle.dq_desk.specs.Others.{GoesOn}
 use Rattle.dq_desk.specs.State.{IsFree, work_of}
 use Rattle.dq_lane.specs.Kept.{AreRefusals, IsLane, IsProgress}
-use Rattle.dq_lane.specs.Right.{AreRightFrom}
+use Rattle.dq_lane.specs.Right.{AreRightFrom, AreRightSoFar}
 use Rattle.dq_lane.specs.View.{steps_of}
 use Rattle.dq_lane.specs.declared.course.Course.{Course}
 use Rattle.dq_lane.specs.declared.progress.Progress.{Progress}
@@ -24,7 +24,7 @@ use Rattle.dq_lane.proofs.Answered.{stood_on}
 use Rattle.dq_lane.proofs.Entries.{ended_work, ends_own, entries_others, no_end_own, steps_own}
 use Rattle.dq_lane.proofs.Limits.{few_steps}
 use Rattle.dq_lane.proofs.Refused.{done_refused, length_refused, results_refused}
-use Rattle.dq_lane.proofs.Results.{done_same, done_set, refusals_behind, results_set}
+use Rattle.dq_lane.proofs.Results.{done_same, done_set, done_taken, refusals_behind, results_set, results_taken}
 
 -- a new lane
 
@@ -99,10 +99,11 @@ free_at l lane journal c h going =
 
 -- the results of a lane that is done
 
-pub right_from : (l : LoadedFiles) (lane : ℕ) (seen : List Entry) (c : Course) → IsLane l lane seen c → c.done ≡ true → AreRightFrom l lane seen c.results
+pub right_from : (l : LoadedFiles) (lane : ℕ) (seen : List Entry) (c : Course) → IsLane l lane seen c → c.done ≡ true → AreRightFrom l lane seen (take c.taken c.results)
 right_from l lane seen c h done =
     let ends : EndsOnce (entries_of lane seen) = rw done at h.ends in
-    record {
+    let all : take c.taken c.results ≡ c.results = take_all c.taken c.results (omega (arith, h.over done, h.count)) in
+    let right : AreRightFrom l lane seen c.results = record {
       on = λ journal legal g.
           let same : entries_of lane journal ≡ entries_of lane seen = rw g.is (entries_others lane seen g.more g.others) in
           record {
@@ -110,6 +111,18 @@ right_from l lane seen c h done =
             order = rw same h.order;
             ends = rw same ends;
           };
+    } in
+    rw all right
+
+pub right_so_far : (l : LoadedFiles) (lane : ℕ) (seen : List Entry) (c : Course) → IsLane l lane seen c → AreRightSoFar l lane seen (take c.taken c.results)
+right_so_far l lane seen c h =
+    let count : length (take c.taken c.results) ≡ c.taken = length-take-le c.taken c.results (omega (arith, h.within, h.count)) in
+    let told = done_taken 1 c.taken c.results (λ n. done_refused l.script.schemas n (drop c.taken (steps_of l lane)) (drop c.taken c.results) h.to_come) in
+    record {
+      on = λ journal legal g.
+          let right : AreResults l journal lane 1 (steps_of l lane) c.results = rw g.is (h.right g.more (rw g.is at legal)) in
+          rw count (results_taken l journal lane 1 c.taken (steps_of l lane) c.results right);
+      order = rw told h.order;
     }
 
 -- the next step is refused

@@ -34,7 +34,20 @@ result_at l journal lane k (suc i) (t ∷ ss) (x ∷ rs) s r are at there =
     let n : k + suc i ≡ k + 1 + i = omega arith in
     rw n (result_at l journal lane (k + 1) i ss rs s r are.1 at there)
 
+-- the first ones alone
+pub results_taken : (l : LoadedFiles) (journal : List Entry) (lane k i : ℕ) (ss : List Step) (rs : List StepResult) → AreResults l journal lane k ss rs → AreResults l journal lane k (take i ss) (take i rs)
+results_taken l journal lane k zero ss rs are = tt
+results_taken l journal lane k (suc i) [] [] are = tt
+results_taken l journal lane k (suc i) [] (x ∷ rs) are = absurd are
+results_taken l journal lane k (suc i) (t ∷ ss) [] are = absurd are
+results_taken l journal lane k (suc i) (t ∷ ss) (x ∷ rs) are = (are.0, results_taken l journal lane (k + 1) i ss rs are.1)
+
 -- the steps that weren't refused
+
+pub done_taken : (k i : ℕ) (rs : List StepResult) → ((n : ℕ) → done_from n (drop i rs) ≡ []) → done_from k (take i rs) ≡ done_from k rs
+done_taken k zero rs none = sym (none k)
+done_taken k (suc i) [] none = refl
+done_taken k (suc i) (x ∷ rs) none = ap (λ numbers. unless_refused k x ++ numbers) (done_taken (k + 1) i rs none)
 
 nothing_behind : (xs ys : List ℕ) → xs ++ ys ≡ [] → ys ≡ []
 nothing_behind [] ys e = e

@@ -1,6 +1,7 @@
 -- Two small scripts, which the tests play.
 use Rattle.std.specs.Prelude.{◌≡◌, ℕ, ◌≤◌, true, List, [], ◌∷◌, length, None}
 use Rattle.std.specs.List.{list_all}
+use Rattle.dq_base.specs.Dims.{plain}
 use Rattle.dq_base.specs.Limits.{most_all_zones}
 use Rattle.dq_base.specs.Scripts.{lane_fits, sources_of, zones_count}
 use Rattle.dq_base.specs.declared.query.Measure.TheVariants.{Rows}
@@ -16,7 +17,7 @@ use Rattle.dq_lane.specs.declared.lane.Stepped.TheVariants.{Moved, Waits, Done}
 
 -- how many rows each region of an extract has
 abbrev pub regions_of : ℕ → Query
-regions_of source = record { source = source; filters = []; dims = 0 ∷ []; measures = Rows ∷ []; order = []; top = None }
+regions_of source = record { source = source; filters = []; dims = plain 0 ∷ []; measures = Rows ∷ []; order = []; top = None }
 
 -- a lane that asks before and after another replaces the extract
 abbrev pub replaced_lanes : List (List Step)

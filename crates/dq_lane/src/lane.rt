@@ -3,7 +3,7 @@ ghost use Rattle.std.specs.Prelude.{◌≡◌, ◌<◌, ◌≤◌, length, map, 
 ghost use Rattle.dq_desk.specs.Machine.{after};
 ghost use Rattle.dq_desk.specs.Others.{GoesOn};
 ghost use Rattle.dq_desk.specs.State.{work_of};
-ghost use Rattle.dq_lane.specs.Right.{AreRightFrom};
+ghost use Rattle.dq_lane.specs.Right.{AreRightFrom, AreRightSoFar};
 ghost use Rattle.dq_lane.specs.Turns.{GrewBy, IsTurn};
 ghost use Rattle.dq_lane.specs.View.{new_lane, place_of, steps_of};
 
@@ -112,6 +112,7 @@ impl Lane {
         ensures ended { (work_of (after desk.old.loaded desk.old.journal) self.old.number).ended ≡ self.old.done }
         ensures turn { IsTurn result self.old self.new desk.old.journal desk.new.journal }
     {
+        // A desk's journal is legal: only this read tells it to the proof.
         let _journal = desk.journal();
         if self.course.done {
             self.seen = Snapshot::of(desk.journal());
@@ -125,12 +126,13 @@ impl Lane {
         Stepped::Moved
     }
 
-    /// The results of its steps, one for each in order: that of a refused step says so, and each other tells the place of its
-    /// entry. It takes no memory.
+    /// The results so far, one for each step that had its turn, in order: that of a refused step says so, and each other tells
+    /// the place of its entry. A zone that wasn't answered yet is `Memory`. Once the lane is done, there is one for each of its
+    /// steps. It takes no memory.
     pub fn into_results(self) -> LaneResults
-        requires { self.done ≡ true }
-        ensures right { AreRightFrom self.loaded self.number self.seen result }
         ensures places { map place_of result ≡ self.places }
+        ensures so_far { AreRightSoFar self.loaded self.number self.seen result }
+        ensures right { self.done ≡ true → AreRightFrom self.loaded self.number self.seen result }
     {
         let Lane {
             number: _,
@@ -138,6 +140,8 @@ impl Lane {
             course,
             seen: _,
         } = self;
-        course.results
+        let mut results = course.results;
+        results.truncate(course.taken as usize);
+        results
     }
 }

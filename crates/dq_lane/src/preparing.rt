@@ -1,5 +1,5 @@
 ghost use Rattle.std.specs.Arc.{arc_value};
-ghost use Rattle.std.specs.Prelude.{◌≡◌, ◌≤◌, [], ◌∷◌, ◌++◌, length, map, IfOk, OnOk};
+ghost use Rattle.std.specs.Prelude.{◌≡◌, ◌≤◌, [], ◌∷◌, ◌++◌, length, IfOk, OnOk};
 ghost use Rattle.dq_base.specs.Canonical.{canonical as canonical_form};
 ghost use Rattle.dq_base.specs.Limits.{most_zones};
 ghost use Rattle.dq_base.specs.Scripts.{step_of};
@@ -8,8 +8,8 @@ ghost use Rattle.dq_lane.specs.Answering.{canons_of};
 ghost use Rattle.dq_lane.specs.Events.{IsProgressFor};
 
 use crate::progress::Progress;
-use dq_base::{Canon, List, Memory, Numbers, Queries, Query, Schemas, Step};
-use dq_desk::{CanonOwners, Prepared, step_at};
+use dq_base::{Canon, Canons, List, Memory, Numbers, Queries, Query, Schemas, Step};
+use dq_desk::{Prepared, step_at};
 use dq_extract::Loaded;
 use dq_query::{canonical, check};
 use std::alloc::Global;
@@ -29,10 +29,10 @@ fn prepare_zone(
     number: u32,
     q: &Query,
     zones: &mut Numbers,
-    canons: &mut CanonOwners,
+    canons: &mut Canons,
 ) -> Result<(), Memory>
     ensures zones { OnOk result (zones.new ≡ zones.old ++ valid_from schemas.now number (q.now ∷ [])) }
-    ensures canons { OnOk result (map arc_value canons.new ≡ map arc_value canons.old ++ canons_of schemas.now (q.now ∷ [])) }
+    ensures canons { OnOk result (canons.new ≡ canons.old ++ canons_of schemas.now (q.now ∷ [])) }
 {
     if check(schemas, q).is_err() {
         return Ok(());
@@ -49,7 +49,7 @@ fn prepare(alloc: Global, schemas: &Schemas, queries: &Queries) -> Result<Prepar
     ensures { IfOk result (λ prepared. prepared ≡ preparation schemas.now queries.now) }
 {
     let mut zones = List::new(alloc);
-    let mut canons = List::new(alloc);
+    let mut canons = Canons::new(alloc);
     let mut number = 0u32;
     for q in queries.as_slice() {
         number += 1;

@@ -10,7 +10,7 @@ ghost use Rattle.dq_lane.specs.Worked.{ArePlaying, DoneBy, FitsTest, appended_la
 
 use crate::{Lane, Stepped};
 use dq_base::{
-    Cell, Cells, Fails, How, LaneSteps, List, Measure, Query, Schema, Script, Sort, Step, Table,
+    Bound, Cell, Cells, Dim, Fails, How, LaneSteps, List, Measure, Query, Schema, Script, Sort, Step, Table,
     Text,
 };
 use dq_desk::Desk;
@@ -47,7 +47,12 @@ fn three_columns(rt: &impl Abort, alloc: Global) -> Schema
         word(rt, alloc, b"amount"),
     ];
     let sorts = [Sort::Word, Sort::Whole, Sort::Whole];
-    Schema::new(list_of(rt, alloc, names), list_of(rt, alloc, sorts))
+    let schema = Schema::new(
+        alloc,
+        list_of(rt, alloc, names),
+        list_of(rt, alloc, sorts),
+    );
+    schema.ok().expect(rt, "memory")
 }
 
 // How many rows each region of an extract has.
@@ -57,7 +62,7 @@ fn regions(rt: &impl Abort, alloc: Global, source: u32) -> Query
     Query {
         source,
         filters: List::new(alloc),
-        dims: list_of(rt, alloc, [0]),
+        dims: list_of(rt, alloc, [Dim::plain(0)]),
         measures: list_of(rt, alloc, [Measure::Rows]),
         order: List::new(alloc),
         top: None,
@@ -130,11 +135,13 @@ fn script(rt: &impl Abort, alloc: Global, lanes: LaneSteps) -> Script
     Script {
         names: list_of(rt, alloc, [word(rt, alloc, b"sales")]),
         schemas: list_of(rt, alloc, [three_columns(rt, alloc)]),
-        literal: 1,
-        clever: 1,
+        literal: Bound::Entries(1),
+        clever: Bound::Cells(1),
         lanes,
         schedule: List::new(alloc),
         fails: list_of(rt, alloc, [no_fails(alloc), no_fails(alloc)]),
+        sessions: List::new(alloc),
+        blends: List::new(alloc),
     }
 }
 

@@ -54,7 +54,7 @@ abbrev pub is_free : Work → Bool
 is_free w = if w.ended then false else true
 
 -- one more entry, which is the lane's
-pub record Enters (c : Cursor) (lane : ℕ) (d : Cursor) : Type 0 where
+pub record HasEntry (c : Cursor) (lane : ℕ) (d : Cursor) : Type 0 where
   pub entry : Entry
   pub of_lane : lane_of entry ≡ lane
   pub is : d ≡ record { journal = c.journal ++ entry ∷ []; used = use_up c lane (length (step_in entry)) }
@@ -63,7 +63,7 @@ abbrev pub TurnBy : (passes refused : Bool) → Cursor → ℕ → Cursor → Ty
 TurnBy true refused c lane d = d ≡ c
 -- a refused step is used up without an entry
 TurnBy false true c lane d = d ≡ record { journal = c.journal; used = use_up c lane 1 }
-TurnBy false false c lane d = Enters c lane d
+TurnBy false false c lane d = HasEntry c lane d
 
 abbrev pub TurnOf : Work → Option (Option ℕ) → Cursor → ℕ → Cursor → Type 0
 TurnOf w next c lane d = TurnBy (passes w) (is_free w && is_refused next) c lane d

@@ -1,3 +1,4 @@
 pub mod Follows
 pub mod Lanes
+pub mod Legal
 pub mod Turns

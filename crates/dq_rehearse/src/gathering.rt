@@ -18,6 +18,7 @@ pub fn gather(alloc: Global, desk: &Desk, lanes: Vec<Lane>) -> Result<LaneResult
     ensures right { IfOk result (λ results. IsRight desk.now.loaded desk.now.journal results) }
     ensures places { IfOk result (λ results. places_told results ≡ map places_in lanes.items) }
 {
+    // A desk's journal is legal: only this read tells it to the proof.
     let _journal = desk.journal();
     let mut results = List::with_capacity(alloc, lanes.len() as u64)?;
     for lane in lanes {

@@ -1,6 +1,7 @@
 ghost use Rattle.std.specs.List.{list_all};
 ghost use Rattle.std.specs.Prelude.{◌≡◌, ◌+◌, ◌<◌, ℕ, [], ◌∷◌, length, map, true, false, All};
 ghost use Rattle.dq_base.specs.Scripts.{is_lane};
+ghost use Rattle.dq_desk.specs.Machine.{Legal};
 ghost use Rattle.dq_rehearse.specs.Follows.{FollowsTurns, round_of};
 ghost use Rattle.dq_rehearse.specs.Lanes.{AreOn, IsDone, IsOn, all_new, places_in};
 ghost use Rattle.dq_rehearse.specs.Turns.{AreOver, HavePlayed, HavePlayedRounds, Turned, Turns, turns_left};
@@ -80,7 +81,7 @@ fn play_rounds(alloc: Global, desk: &mut Desk, lanes: &mut Vec<Lane>)
 }
 
 /// Plays the lanes to their ends: first the schedule's turns, and then rounds from the first lane to the last until all are
-/// done. A turn of a lane is all its pending work and then its next step; a turn of a lane that is done passes. It always
+/// done. The journal that comes about is legal. A turn of a lane is all its pending work and then its next step; a turn of a lane that is done passes. It always
 /// returns and is never refused: where memory is wanting, the lanes' results say so. It costs the work and the steps of all
 /// lanes, and a constant more for each turn.
 #[tactic(auto, using(crate::proofs::New::on_at_start, crate::proofs::Plays::all_done, crate::proofs::Plays::all_followed))]
@@ -89,6 +90,7 @@ pub fn play(alloc: Global, desk: Desk, lanes: Vec<Lane>, schedule: &Numbers) -> 
     requires lanes { lanes.items ≡ all_new desk.loaded }
     requires schedule { list_all (is_lane (length desk.loaded.script.lanes)) schedule.now ≡ true }
     ensures loaded { result.desk.loaded ≡ desk.loaded }
+    ensures legal { Legal desk.loaded result.desk.journal }
     ensures on { AreOn desk.loaded result.desk.journal result.lanes.items }
     ensures done { All IsDone result.lanes.items }
     ensures follows { FollowsTurns desk.loaded schedule.now result.desk.journal (map places_in result.lanes.items) }
@@ -97,5 +99,7 @@ pub fn play(alloc: Global, desk: Desk, lanes: Vec<Lane>, schedule: &Numbers) -> 
     let mut lanes = lanes;
     play_schedule(alloc, &mut desk, &mut lanes, schedule.as_slice());
     play_rounds(alloc, &mut desk, &mut lanes);
+    // A desk's journal is legal: only this read tells it to the proof.
+    let _journal = desk.journal();
     Played { desk, lanes }
 }

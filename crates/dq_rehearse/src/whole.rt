@@ -1,6 +1,7 @@
 ghost use Rattle.std.specs.Arc.{arc_value};
 ghost use Rattle.std.specs.Prelude.{IfOk};
 ghost use Rattle.dq_journal.specs.Right.{IsRight};
+ghost use Rattle.dq_rehearse.specs.Legal.{Legal};
 ghost use Rattle.dq_rehearse.specs.Follows.{Follows};
 
 use crate::beginning::new_lanes;
@@ -20,10 +21,11 @@ pub struct Whole {
     pub results: LaneResultsList,
 }
 
-/// Plays what was loaded, by the script's schedule. The results are right for the journal, which follows the schedule. `Memory`
-/// comes where there is none for the desk, the lanes or the list of their results; where it is wanting later, steps are refused
-/// or zones are `Memory`. It costs the checks of all zones, and then the work and the steps of all lanes.
+/// Plays what was loaded, by the script's schedule. The journal is legal and follows the schedule, and the results are right
+/// for it. `Memory` comes where there is none for the desk, the lanes or the list of their results; where it is wanting later,
+/// steps are refused or zones are `Memory`. It costs the checks of all zones, and then the work and the steps of all lanes.
 pub fn play_script(alloc: Global, loaded: &Arc<Loaded>) -> Result<Whole, Memory>
+    ensures legal { IfOk result (λ whole. Legal (arc_value loaded.now) whole.journal.entries) }
     ensures right { IfOk result (λ whole. IsRight (arc_value loaded.now) whole.journal.entries whole.results) }
     ensures follows { IfOk result (λ whole. Follows (arc_value loaded.now) whole.journal.entries whole.results) }
 {

@@ -1,5 +1,4 @@
-use Rattle.std.proofs.Common.{◌≡◌, ◌+◌, map, arith}
-use Rattle.std.specs.Arc.{arc_value}
+use Rattle.std.proofs.Common.{◌≡◌, ◌+◌, arith}
 use Rattle.dq_lane.proofs.Prepared.{canons_more, valid_more}
 use Rattle.dq_lane.proofs.preparing.prepare.Goals as goal
 
@@ -13,5 +12,5 @@ loop-q-preserved c =
     let number : c.loop-q.number + 1 ≡ place + 1 = omega (arith, c.loop-q.invariant.0) in (
       number,
       valid_more schemas queries place c.q-item.result c.loop-q.zones _ c.loop-q.number within at c.loop-q.invariant.0 c.loop-q.invariant.1 c.in_ok-prepare_zone.ensures.zones,
-      canons_more schemas queries place c.q-item.result (map arc_value c.loop-q.canons) _ within at c.loop-q.invariant.2 c.in_ok-prepare_zone.ensures.canons,
+      canons_more schemas queries place c.q-item.result c.loop-q.canons _ within at c.loop-q.invariant.2 c.in_ok-prepare_zone.ensures.canons,
     )

@@ -1,6 +1,7 @@
 use Rattle.std.proofs.Common.{◌≡◌, ◌∙◌, ◌+◌, ◌∷◌, [], arith, length, length-append, subst, sym}
 use Rattle.std.proofs.lemmas.Grind.{common_steps}
-use Rattle.dq_rehearse.specs.Lanes.{IsOn}
+use Rattle.std.proofs.lemmas.List.Elements.{All-get_or}
+use Rattle.dq_rehearse.specs.Lanes.{IsDone, IsOn, no_lane}
 use Rattle.dq_rehearse.proofs.Gathered.{AreRight-push, IsRight-all, lane_right, left_lanes, places-more}
 use Rattle.dq_rehearse.proofs.gathering.gather.Goals as goal
 
@@ -23,7 +24,8 @@ loop-lane-preserved c =
     let pushed = c.in_ok-push.ensures.ok in
     let at = left_lanes l lanes (length results) lane c.next.new.self.rest.items (sym i.rest ∙ step) in
     let on : IsOn l journal (length results + 1) lane = subst (IsOn l journal (length results + 1)) at.1 (c.requires.on.each (length results) at.0) in
-    let right = lane_right l journal (length results) lane rs i.legal on c.into_results.ensures.right in
+    let done : IsDone lane = subst IsDone at.1 (All-get_or IsDone lanes (length results) (no_lane l) at.0 c.requires.done) in
+    let right = lane_right l journal (length results) lane rs i.legal on (c.into_results.ensures.right done) in
     let longer : length c.push.new.self ≡ length results + 1 = rw pushed (length-append results (rs ∷ [])) in
     record {
       legal = i.legal;
