@@ -1,5 +1,5 @@
 -- The rows of a file of comma-separated values, or its first fault.
-use Rattle.std.specs.Prelude.{◌≡◌, ⊤, ℕ, ◌+◌, ◌*◌, ◌==◌, ℤ, List, [], ◌∷◌, length, nat_lt, bytes_eq, Option, Some, None, Result, Ok, Err, IsErr, if◌then◌else◌}
+use Rattle.std.specs.Prelude.{◌≡◌, ⊤, ℕ, ◌+◌, ◌*◌, ◌==◌, ℤ, List, [], ◌∷◌, length, nat_lt, bytes_eq, Option, Some, None, Result, Ok, Err, if◌then◌else◌}
 use Rattle.std.specs.Str.{is_utf8}
 use Rattle.std.specs.Cmp.Lexicographic.{pointwise}
 use Rattle.csv.specs.Reading.{records, default_config, strip_bom}
@@ -10,16 +10,16 @@ use Rattle.dq_base.specs.declared.schema.Sort.TheVariants as sort
 use Rattle.dq_base.specs.declared.value.Value.{Value}
 use Rattle.dq_base.specs.declared.value.Value.TheVariants as value
 use Rattle.dq_extract.specs.declared.fault.LoadFault.{LoadFault}
-use Rattle.dq_extract.specs.declared.fault.LoadFault.TheVariants.{Unbuilt, Memory}
+use Rattle.dq_extract.specs.declared.fault.LoadFault.TheVariants as fault
 use Rattle.dq_extract.specs.Wholes.{whole_of}
 
 -- why a file has no rows; rows and columns count from 1
 pub data RowFault : Type 0 where
   Header : RowFault
   Width : (row : ℕ) → RowFault
-  TooManyCells : RowFault
   Number : (row column : ℕ) → RowFault
   NotText : (row column : ℕ) → RowFault
+  TooManyCells : RowFault
 
 abbrev pub whole_value : RowFault → Option ℤ → Result Value RowFault
 whole_value fault None = Err fault
@@ -67,14 +67,22 @@ rows_after heading room (first ∷ rest) = if pointwise bytes_eq heading.names f
 abbrev pub rows_of : Heading → ℕ → List ℕ → Result (List (List Value)) RowFault
 rows_of heading room bytes = rows_after heading room (records default_config (strip_bom bytes))
 
--- an answer is what is wanted, or tells that there is none, or that memory was wanting
+-- an answer is exactly what is wanted, or tells that memory was wanting
 abbrev pub Answers : {X : Type 0} → Result X RowFault → Result X LoadFault → Type 0
 Answers want (Ok x) = want ≡ Ok x
-Answers want (Err Unbuilt) = IsErr want
-Answers want (Err Memory) = ⊤
+Answers want (Err fault.Header) = want ≡ Err Header
+Answers want (Err (fault.Width row)) = want ≡ Err (Width row)
+Answers want (Err (fault.Number row column)) = want ≡ Err (Number row column)
+Answers want (Err (fault.NotText row column)) = want ≡ Err (NotText row column)
+Answers want (Err fault.TooManyCells) = want ≡ Err TooManyCells
+Answers want (Err fault.Memory) = ⊤
 
--- a segment has the schema and exactly the file's rows; unbuilt is exactly a file with a fault
+-- a segment has the schema and exactly the file's rows, and a fault is the file's first
 abbrev pub AnswersLoad : Heading → ℕ → List ℕ → Result Version LoadFault → Type 0
 AnswersLoad heading room bytes (Ok segment) = (segment.heading ≡ heading) × (rows_of heading room bytes ≡ Ok segment.rows)
-AnswersLoad heading room bytes (Err Unbuilt) = IsErr (rows_of heading room bytes)
-AnswersLoad heading room bytes (Err Memory) = ⊤
+AnswersLoad heading room bytes (Err fault.Header) = rows_of heading room bytes ≡ Err Header
+AnswersLoad heading room bytes (Err (fault.Width row)) = rows_of heading room bytes ≡ Err (Width row)
+AnswersLoad heading room bytes (Err (fault.Number row column)) = rows_of heading room bytes ≡ Err (Number row column)
+AnswersLoad heading room bytes (Err (fault.NotText row column)) = rows_of heading room bytes ≡ Err (NotText row column)
+AnswersLoad heading room bytes (Err fault.TooManyCells) = rows_of heading room bytes ≡ Err TooManyCells
+AnswersLoad heading room bytes (Err fault.Memory) = ⊤

@@ -1,4 +1,4 @@
-ghost use Rattle.std.specs.Prelude.{◌≡◌, ◌≢◌, ◌<◌, ℕ, length, slice_index};
+ghost use Rattle.std.specs.Prelude.{◌≡◌, ◌≢◌, ◌<◌, length, slice_index};
 ghost use Rattle.std.specs.Str.{is_utf8};
 ghost use Rattle.dq_extract.specs.Rows.{Answers, value_of};
 ghost use Rattle.dq_extract.specs.Wholes.{whole_of};
@@ -43,9 +43,15 @@ fn is_text(bytes: &[u8]) -> bool
     }
 }
 
-/// The value of a field in a column of that sort.
-pub(crate) fn read_cell(alloc: Global, sort: Sort, field: &[u8]) -> Result<Value, LoadFault>
-    ensures { (row column : ℕ) → Answers (value_of sort row column field.now) result }
+/// The value of a field of that row in a column of that sort.
+pub(crate) fn read_cell(
+    alloc: Global,
+    sort: Sort,
+    row: u64,
+    column: u64,
+    field: &[u8],
+) -> Result<Value, LoadFault>
+    ensures { Answers (value_of sort row column field.now) result }
 {
     if field.is_empty() {
         return Ok(Value::Null);
@@ -53,11 +59,11 @@ pub(crate) fn read_cell(alloc: Global, sort: Sort, field: &[u8]) -> Result<Value
     match sort {
         Sort::Whole => match parse_whole(field) {
             Some(number) => Ok(Value::Int(number)),
-            None => Err(LoadFault::Unbuilt),
+            None => Err(LoadFault::Number(row, column)),
         },
         Sort::Word => {
             if !is_text(field) {
-                return Err(LoadFault::Unbuilt);
+                return Err(LoadFault::NotText(row, column));
             }
             Ok(Value::Word(Text::copy_of(alloc, field)?))
         }

@@ -30,17 +30,22 @@ fn are_names(names: &[Text], row: &ByteRecord) -> bool
     true
 }
 
-// The values of a record's fields.
-fn read_row(alloc: Global, sorts: &[Sort], row: &ByteRecord) -> Result<Values, LoadFault>
+// The values of the fields of the row of that number.
+fn read_row(
+    alloc: Global,
+    sorts: &[Sort],
+    number: u64,
+    row: &ByteRecord,
+) -> Result<Values, LoadFault>
     requires { length (fields_of row.now) ≡ length sorts.now }
-    ensures { (number : ℕ) → Answers (values_from number 1 sorts.now (fields_of row.now)) result }
+    ensures { Answers (values_from number 1 sorts.now (fields_of row.now)) result }
 {
     let mut values = List::with_capacity(alloc, sorts.len() as u64)?;
     for (place, sort) in sorts.iter().enumerate() {
         let Some(field) = row.get(place) else {
             unreachable!();
         };
-        let value = match read_cell(alloc, *sort, field) {
+        let value = match read_cell(alloc, *sort, number, place as u64 + 1, field) {
             Ok(value) => value,
             Err(fault) => return Err(fault),
         };
@@ -69,13 +74,14 @@ fn read_rows(
             return Ok(rows);
         }
         let row = records.current();
+        let number = rows.len() + 1;
         if row.len() as u64 != columns {
-            return Err(LoadFault::Unbuilt);
+            return Err(LoadFault::Width(number));
         }
         if room - cells < columns {
-            return Err(LoadFault::Unbuilt);
+            return Err(LoadFault::TooManyCells);
         }
-        let values = match read_row(alloc, schema.sorts().as_slice(), row) {
+        let values = match read_row(alloc, schema.sorts().as_slice(), number, row) {
             Ok(values) => values,
             Err(fault) => return Err(fault),
         };
@@ -97,10 +103,10 @@ fn read_file(
     ensures cells { IfOk result (λ rows. length rows * length schema.now.names ≤ room) }
 {
     if !records.next()? {
-        return Err(LoadFault::Unbuilt);
+        return Err(LoadFault::Header);
     }
     if !are_names(schema.names().as_slice(), records.current()) {
-        return Err(LoadFault::Unbuilt);
+        return Err(LoadFault::Header);
     }
     read_rows(alloc, schema, room, records)
 }
@@ -109,8 +115,11 @@ fn read_file(
 ///
 /// A leading byte order mark is skipped. The first record is the header, which has the schema's names; each record behind
 /// it is a row with one field for each column. An empty field is null, a field of a whole column is a dash or none and
-/// decimal digits within 64 bits, and a field of a text column is UTF-8. `Unbuilt` comes exactly where the file has a
-/// fault. The cost is linear in the bytes.
+/// decimal digits within 64 bits, and a field of a text column is UTF-8.
+///
+/// The first fault is told, in the order of the rows: `Header`, then in each row `Width`, `TooManyCells` (with this row the
+/// cells are more than `room`), and by column `Number` or `NotText`. `Memory` can come at any file. The cost is linear in the
+/// bytes.
 pub fn load(alloc: Global, schema: &Schema, room: u64, bytes: &[u8]) -> Result<Segment, LoadFault>
     requires columns { 0 < length schema.now.names }
     requires room { room ≤ 2 ^ 23 }

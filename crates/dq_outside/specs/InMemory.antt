@@ -2,11 +2,16 @@
 use Rattle.std.specs.Prelude.{ℕ, List}
 use Rattle.dq_outside.specs.declared.files.NamedFile.{NamedFile}
 use Rattle.dq_outside.specs.declared.memory_folder.MemFolder.{MemFolder}
+use Rattle.dq_outside.specs.declared.memory_folder.SureFolder.{SureFolder}
 use Rattle.dq_outside.specs.declared.memory_sink.MemSink.{MemSink}
 
 -- the files that the folder holds
 abbrev pub given_files : MemFolder → List NamedFile
 given_files folder = folder.files
+
+-- the files that a sure folder holds
+abbrev pub held_files : SureFolder → List NamedFile
+held_files folder = folder.files
 
 -- the numbers of the reads that fail
 abbrev pub failing_reads : MemFolder → List ℕ

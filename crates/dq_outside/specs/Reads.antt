@@ -1,5 +1,5 @@
 -- What a folder answers.
-use Rattle.std.specs.Prelude.{◌≡◌, ⊤, ℕ, ◌+◌, ◌<◌, ◌≤◌, List, length, Option, Some, None, IfSome, Result, Ok, Err}
+use Rattle.std.specs.Prelude.{◌≡◌, ⊤, ℕ, ◌+◌, ◌-◌, ◌^◌, ◌<◌, ◌≤◌, min, List, length, Option, Some, None, IfSome, Result, Ok, Err}
 use Rattle.dq_base.specs.Causes.{Rose, RoseBy}
 use Rattle.dq_outside.specs.declared.folder.FolderFault.{FolderFault}
 use Rattle.dq_outside.specs.declared.folder.FolderFault.TheVariants as fault
@@ -43,3 +43,24 @@ OwesBytes room before now (Ok bytes) = (length bytes ≤ room) × RoseBy (length
 OwesBytes room before now (Err fault.TooLong) = RoseBy (room + 1) before now
 OwesBytes room before now (Err fault.Failed) = ⊤
 OwesBytes room before now (Err fault.Memory) = ⊤
+
+-- the last fault's name, where each is told: the asked one after a fault, and otherwise as before
+abbrev pub TellsLastFault : List ℕ → Option (List ℕ) → Option (List ℕ) → Result (List ℕ) FolderFault → Type 0
+TellsLastFault name before now (Ok bytes) = now ≡ before
+TellsLastFault name before now (Err fault.TooLong) = now ≡ before
+TellsLastFault name before now (Err fault.Failed) = now ≡ Some name
+TellsLastFault name before now (Err fault.Memory) = now ≡ before
+
+-- the count of faults is one more after a fault, and otherwise as before
+abbrev pub CountsEachFault : ℕ → ℕ → Result (List ℕ) FolderFault → Type 0
+CountsEachFault before now (Ok bytes) = now ≡ before
+CountsEachFault before now (Err fault.TooLong) = now ≡ before
+CountsEachFault before now (Err fault.Failed) = now ≡ min (before + 1) (2 ^ 64 - 1)
+CountsEachFault before now (Err fault.Memory) = now ≡ before
+
+-- the count of bytes taken grows by the answer's bytes, or by the room and one where they were too many
+abbrev pub CountsEachByte : ℕ → ℕ → ℕ → Result (List ℕ) FolderFault → Type 0
+CountsEachByte room before now (Ok bytes) = now ≡ min (before + length bytes) (2 ^ 64 - 1)
+CountsEachByte room before now (Err fault.TooLong) = now ≡ min (before + (room + 1)) (2 ^ 64 - 1)
+CountsEachByte room before now (Err fault.Failed) = now ≡ before
+CountsEachByte room before now (Err fault.Memory) = now ≡ before

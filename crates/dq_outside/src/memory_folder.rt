@@ -1,8 +1,8 @@
 ghost use Rattle.std.specs.Prelude.{◌≡◌, ◌≤◌, Some, None, option_map};
 ghost use Rattle.dq_outside.specs.Fails.{ReadFailsWhere, is_listed, next_call, read_fails};
 ghost use Rattle.dq_outside.specs.Files.{file_named, sure_file};
-ghost use Rattle.dq_outside.specs.InMemory.{failing_reads, given_files, reads_made};
-ghost use Rattle.dq_outside.specs.Reads.{AnswersAsTold, CountsFaults, NamesLastFault, OwesBytes};
+ghost use Rattle.dq_outside.specs.InMemory.{failing_reads, given_files, held_files, reads_made};
+ghost use Rattle.dq_outside.specs.Reads.{AnswersAsTold, CountsEachByte, CountsEachFault, CountsFaults, NamesLastFault, OwesBytes, TellsLastFault};
 
 use crate::files::{NamedFiles, find_file};
 use crate::folder::{Folder, FolderFault};
@@ -75,13 +75,18 @@ impl Folder for MemFolder {
         ensures counted { reads_made self.new ≡ next_call (reads_made self.old) }
         ensures same_files { given_files self.new ≡ given_files self.old }
         ensures same_fails { failing_reads self.new ≡ failing_reads self.old }
+
+        // Its counts and the last fault's name are exact.
+        ensures named { TellsLastFault name.now (⟦<MemFolder as Folder>⟧.last_fault self.old) (⟦<MemFolder as Folder>⟧.last_fault self.new) result }
+        ensures faults { CountsEachFault (⟦<MemFolder as Folder>⟧.faults self.old) (⟦<MemFolder as Folder>⟧.faults self.new) result }
+        ensures exactly { CountsEachByte room (⟦<MemFolder as Folder>⟧.taken self.old) (⟦<MemFolder as Folder>⟧.taken self.new) result }
     {
         self.calls = self.calls.saturating_add(1);
         let fails = listed(&self.fails, self.calls);
         if let Some(bytes) = find_file(&self.files, name.bytes()) {
             let count = bytes.len() as u64;
             if room < count {
-                self.taken = self.taken.saturating_add(count);
+                self.taken = self.taken.saturating_add(room + 1);
                 return Err(FolderFault::TooLong);
             }
             if !fails {
@@ -109,6 +114,7 @@ impl SureFolder {
     /// A folder that holds these files, and under every other name an empty one. Of a name the first file counts.
     pub fn new(files: NamedFiles) -> SureFolder
         ensures files { ⟦<SureFolder as Folder>⟧.files result ≡ Some (sure_file files) }
+        ensures held { held_files result ≡ files }
         ensures faults { ⟦<SureFolder as Folder>⟧.faults result ≡ 0 }
         ensures taken { ⟦<SureFolder as Folder>⟧.taken result ≡ 0 }
     {
@@ -117,6 +123,12 @@ impl SureFolder {
 }
 
 impl Folder for SureFolder {
+    ghost use Rattle.std.specs.Prelude.{◌≡◌, ◌≢◌, ◌≤◌, Some, None, Err};
+    ghost use Rattle.dq_outside.specs.Files.{sure_file};
+    ghost use Rattle.dq_outside.specs.InMemory.{held_files};
+    ghost use Rattle.dq_outside.specs.Reads.{AnswersAsTold, CountsEachByte, CountsFaults, NamesLastFault, OwesBytes};
+    ghost use Rattle.dq_outside.specs.declared.folder.FolderFault.TheVariants as fault;
+
     ghost files = { λ s. Some (sure_file s.files) };
 
     ghost last_fault = { λ s. None };
@@ -125,11 +137,23 @@ impl Folder for SureFolder {
 
     ghost taken = { λ s. s.taken };
 
-    fn read(&mut self, alloc: Global, name: &Text, room: u64) -> Result<Bytes, FolderFault> {
+    fn read(&mut self, alloc: Global, name: &Text, room: u64) -> Result<Bytes, FolderFault>
+        ensures kept { ⟦<SureFolder as Folder>⟧.files self.new ≡ ⟦<SureFolder as Folder>⟧.files self.old }
+        ensures told { AnswersAsTold (sure_file (held_files self.old) name.now) room result }
+        ensures cause { CountsFaults (⟦<SureFolder as Folder>⟧.faults self.old) (⟦<SureFolder as Folder>⟧.faults self.new) result }
+        ensures last { NamesLastFault name.now (⟦<SureFolder as Folder>⟧.last_fault self.old) (⟦<SureFolder as Folder>⟧.last_fault self.new) result }
+        ensures taken { ⟦<SureFolder as Folder>⟧.taken self.old ≤ ⟦<SureFolder as Folder>⟧.taken self.new }
+        ensures bytes { OwesBytes room (⟦<SureFolder as Folder>⟧.taken self.old) (⟦<SureFolder as Folder>⟧.taken self.new) result }
+
+        // It never fails, and its count of bytes taken is exact.
+        ensures sure { result ≢ Err fault.Failed }
+        ensures same_files { held_files self.new ≡ held_files self.old }
+        ensures exactly { CountsEachByte room (⟦<SureFolder as Folder>⟧.taken self.old) (⟦<SureFolder as Folder>⟧.taken self.new) result }
+    {
         let bytes = find_file(&self.files, name.bytes()).unwrap_or(&[]);
         let length = bytes.len() as u64;
         if room < length {
-            self.taken = self.taken.saturating_add(length);
+            self.taken = self.taken.saturating_add(room + 1);
             return Err(FolderFault::TooLong);
         }
         let Ok(copy) = Text::copy_of(alloc, bytes) else {

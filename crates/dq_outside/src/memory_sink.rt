@@ -67,7 +67,7 @@ impl Sink for MemSink {
     ghost use Rattle.std.specs.Prelude.{◌≡◌, Some, IfOk, length, min};
     ghost use Rattle.dq_outside.specs.Fails.{WriteFailsWhere, is_listed, next_call};
     ghost use Rattle.dq_outside.specs.InMemory.{failing_writes, most_at_once, writes_made};
-    ghost use Rattle.dq_outside.specs.Writes.{CountsFaults, TakesSome};
+    ghost use Rattle.dq_outside.specs.Writes.{CountsEachFault, CountsFaults, TakesSome};
 
     ghost written = { λ s. Some s.bytes };
 
@@ -83,6 +83,7 @@ impl Sink for MemSink {
         ensures counted { writes_made self.new ≡ next_call (writes_made self.old) }
         ensures same_fails { failing_writes self.new ≡ failing_writes self.old }
         ensures same_most { most_at_once self.new ≡ most_at_once self.old }
+        ensures faults { CountsEachFault (⟦<MemSink as Sink>⟧.faults self.old) (⟦<MemSink as Sink>⟧.faults self.new) result }
     {
         self.calls = self.calls.saturating_add(1);
         if listed(&self.fails, self.calls) {
@@ -123,6 +124,10 @@ impl SureSink {
 }
 
 impl Sink for SureSink {
+    ghost use Rattle.std.specs.Prelude.{◌≡◌, ◌≢◌, Some, Err, IfOk, length};
+    ghost use Rattle.dq_outside.specs.Writes.{CountsFaults, TakesSome};
+    ghost use Rattle.dq_outside.specs.declared.sink.SinkFault.TheVariants as fault;
+
     ghost written = { λ s. Some s.bytes };
 
     ghost faults = { λ s. 0 };
@@ -131,6 +136,8 @@ impl Sink for SureSink {
         ensures bytes { TakesSome (⟦<SureSink as Sink>⟧.written self.old) (⟦<SureSink as Sink>⟧.written self.new) piece.now result }
         ensures cause { CountsFaults (⟦<SureSink as Sink>⟧.faults self.old) (⟦<SureSink as Sink>⟧.faults self.new) result }
         ensures whole { IfOk result (λ n. n ≡ length piece.now) }
+        ensures sure { result ≢ Err fault.Failed }
+        ensures faults { ⟦<SureSink as Sink>⟧.faults self.new ≡ ⟦<SureSink as Sink>⟧.faults self.old }
     {
         match self.bytes.append(piece) {
             Ok(()) => Ok(piece.len()),

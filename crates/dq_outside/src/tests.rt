@@ -1,3 +1,5 @@
+ghost use Rattle.std.specs.Prelude.{None};
+
 use super::*;
 use dq_base::{Numbers64, Text};
 use std::alloc::Global;
@@ -79,7 +81,9 @@ fn disk_folder_reads(rt: HostRuntime) -> Result<(), Fail> {
         .ok_or("a path that is no text")?
         .as_bytes();
     check_read(&rt, alloc, &mut folder, here, 5, Ok(b"hello"));
+    check_read(&rt, alloc, &mut folder, here, u64::MAX, Ok(b"hello"));
     check_read(&rt, alloc, &mut folder, here, 4, Err(FolderFault::TooLong));
+    check_read(&rt, alloc, &mut folder, here, 0, Err(FolderFault::TooLong));
     fs::remove_file(&rt, path.as_path())?;
     check_read(&rt, alloc, &mut folder, here, 5, Err(FolderFault::Failed));
     check_read(
@@ -101,20 +105,66 @@ fn disk_folder_reads(rt: HostRuntime) -> Result<(), Fail> {
     Ok(())
 }
 
+/// What `write_all` answers at a sink in memory that fails in these calls and takes so many bytes in one, and what it holds.
+fn check_written(
+    rt: &impl Abort,
+    alloc: Global,
+    fails: &[u64],
+    most: usize,
+    want: Result<(), SinkFault>,
+    held: &[u8],
+) {
+    assert!(rt; 0 < most);
+    let mut sink = MemSink::short(alloc, calls(rt, alloc, fails), most);
+    assert_eq!(rt; write_all(&mut sink, b"hello"), want);
+    assert_eq!(rt; sink.bytes(), held);
+}
+
+/// A sink that takes a byte in each of so many calls, and then wants memory.
+#[derive(Drop)]
+struct WantingSink {
+    left: u32,
+}
+
+impl Sink for WantingSink {
+    ghost written = { λ s. None };
+
+    ghost faults = { λ s. 0 };
+
+    fn write(&mut self, piece: &[u8]) -> Result<usize, SinkFault> {
+        if self.left == 0 {
+            return Err(SinkFault::Memory);
+        }
+        self.left -= 1;
+        Ok(piece.len().min(1))
+    }
+}
+
 #[test]
-fn sinks_in_memory_take(rt: HostRuntime) {
+fn faults_of_a_sink_stay_apart(rt: HostRuntime) {
+    let alloc = rt.alloc();
+    check_written(&rt, alloc, &[], 5, Ok(()), b"hello");
+    check_written(&rt, alloc, &[], 1, Ok(()), b"hello");
+    check_written(&rt, alloc, &[6], 1, Ok(()), b"hello");
+    check_written(&rt, alloc, &[1], 5, Err(SinkFault::Failed), b"");
+    check_written(&rt, alloc, &[3], 2, Err(SinkFault::Failed), b"hell");
+    check_written(&rt, alloc, &[9, 2], 1, Err(SinkFault::Failed), b"h");
+
+    let mut sink = WantingSink { left: 5 };
+    assert_eq!(rt; write_all(&mut sink, b"hello"), Ok(()));
+    assert_eq!(rt; write_all(&mut sink, b"more"), Err(SinkFault::Memory));
+    sink.left = 3;
+    assert_eq!(rt; write_all(&mut sink, b"more"), Err(SinkFault::Memory));
+}
+
+#[test]
+fn sinks_in_memory_go_on(rt: HostRuntime) {
     let alloc = rt.alloc();
     let mut sink = MemSink::new(alloc, calls(&rt, alloc, &[2]));
     assert_eq!(rt; write_all(&mut sink, b"one"), Ok(()));
     assert_eq!(rt; write_all(&mut sink, b"two"), Err(SinkFault::Failed));
-    assert_eq!(rt; sink.bytes(), b"one".as_slice());
     assert_eq!(rt; write_all(&mut sink, b"three"), Ok(()));
     assert_eq!(rt; sink.bytes(), b"onethree".as_slice());
-
-    let mut short = MemSink::short(alloc, calls(&rt, alloc, &[6]), 2);
-    assert_eq!(rt; write_all(&mut short, b"hello"), Ok(()));
-    assert_eq!(rt; write_all(&mut short, b"world"), Err(SinkFault::Failed));
-    assert_eq!(rt; short.bytes(), b"helloworl".as_slice());
 
     let mut sure = SureSink::new(alloc);
     assert_eq!(rt; write_all(&mut sure, b"all of it"), Ok(()));
@@ -125,4 +175,5 @@ fn sinks_in_memory_take(rt: HostRuntime) {
 fn standard_output_takes(rt: HostRuntime) {
     let mut out = OutSink::new(&rt);
     assert_eq!(rt; write_all(&mut out, b"a line\n"), Ok(()));
+    PassGate.pass(1, 1);
 }
