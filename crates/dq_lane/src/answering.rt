@@ -53,7 +53,7 @@ fn answer_at(
         unreachable!();
     };
     let outcome = answer_zone(alloc, stands.extract(), canon);
-    *outcomes.item_mut(*zone as usize - 1) = outcome;
+    *outcomes.item_mut(u64::from(*zone) - 1) = outcome;
 }
 
 /// Answers the zones of a preparation, each over what stood of its source; where memory is wanting, the zone is `Memory`. It

@@ -70,11 +70,11 @@ impl Course {
         match event {
             Event::Refused => self.advance(Progress::Fresh),
             Event::Published(place) => {
-                *self.results.item_mut(self.taken as usize) = StepResult::Published(place);
+                *self.results.item_mut(u64::from(self.taken)) = StepResult::Published(place);
                 self.advance(Progress::Fresh);
             }
             Event::Admitted(place, stood) => {
-                let slot = self.results.item_mut(self.taken as usize);
+                let slot = self.results.item_mut(u64::from(self.taken));
                 let refused = replace(slot, StepResult::Unpublished);
                 *slot = admitted(refused, place);
                 let prepared = replace(&mut self.progress, Progress::Fresh);
@@ -93,7 +93,7 @@ impl Course {
         ensures { HasEvaluated self.old self.new }
     {
         if let Progress::Admitted(prepared, stood) = &self.progress {
-            let batch = self.results.item_mut(self.taken as usize - 1);
+            let batch = self.results.item_mut(u64::from(self.taken) - 1);
             answer_step(alloc, prepared, stood, batch);
             self.progress = Progress::Fresh;
         }

@@ -141,7 +141,7 @@ impl Lane {
             seen: _,
         } = self;
         let mut results = course.results;
-        results.truncate(course.taken as usize);
+        results.truncate(u64::from(course.taken));
         results
     }
 }

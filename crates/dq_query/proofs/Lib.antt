@@ -1,4 +1,3 @@
 pub mod Again
 pub mod Inserted
-pub mod Repeats
 pub mod SameAnswer

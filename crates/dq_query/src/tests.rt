@@ -1,7 +1,7 @@
 use super::*;
 use dq_base::{
-    Invalid, List, Measure, OrderKey, Predicate, Predicates, Query, Schema, Schemas, Sort, Sorts,
-    Test, Text, Texts, Value, Values,
+    Dim, Dims, Invalid, List, Measure, OrderKey, Predicate, Predicates, Query, Schema, Schemas,
+    Sort, Sorts, Test, Text, Texts, Value, Values,
 };
 use std::alloc::Global;
 use std::process::Abort;
@@ -44,15 +44,26 @@ fn sales(rt: &impl Abort, alloc: Global) -> Schemas {
     }
     assert_eq!(rt; names.len(), sorts.len());
     let mut schemas = Schemas::new(alloc);
-    assert!(rt; schemas.push(Schema::new(names, sorts)).is_ok());
+    let schema = Schema::new(alloc, names, sorts).ok().expect(rt, "memory");
+    assert!(rt; schemas.push(schema).is_ok());
     schemas
+}
+
+/// The dimensions of these columns and widths.
+fn dims_of(rt: &impl Abort, alloc: Global, items: &[(u32, u32)]) -> Dims {
+    let mut dims = Dims::new(alloc);
+    for (column, width) in items {
+        let dim = Dim::new(*column, *width).expect(rt, "a width");
+        assert!(rt; dims.push(dim).is_ok());
+    }
+    dims
 }
 
 /// A query of these dimensions, measures and order places, with so many predicates that any region meets.
 fn query(
     rt: &impl Abort,
     alloc: Global,
-    dims: &[u32],
+    dims: &[(u32, u32)],
     measures: &[Measure],
     places: &[u32],
     predicates: u32,
@@ -72,7 +83,7 @@ fn query(
     Query {
         source: 0,
         filters,
-        dims: list(rt, alloc, dims),
+        dims: dims_of(rt, alloc, dims),
         measures: list(rt, alloc, measures),
         order,
         top: None,
@@ -86,21 +97,29 @@ fn each_reason_is_found(rt: HostRuntime) {
     let rows = [Measure::Rows];
     for (dims, measures, places, predicates, want) in [
         (
-            [0].as_slice(),
+            [(0, 1)].as_slice(),
             rows.as_slice(),
             [1, 2].as_slice(),
             16,
             Ok(()),
         ),
-        ([3].as_slice(), &rows, &[], 0, Err(Invalid::Column)),
-        ([0, 0].as_slice(), &rows, &[], 0, Err(Invalid::RepeatedDim)),
+        ([(1, 5), (2, 1), (1, 10)].as_slice(), &rows, &[], 0, Ok(())),
+        ([(3, 1)].as_slice(), &rows, &[], 0, Err(Invalid::Column)),
         (
-            [2, 1, 0, 2].as_slice(),
+            [(1, 5), (1, 5)].as_slice(),
             &rows,
             &[],
             0,
             Err(Invalid::RepeatedDim),
         ),
+        (
+            [(2, 1), (1, 1), (0, 1), (2, 1)].as_slice(),
+            &rows,
+            &[],
+            0,
+            Err(Invalid::RepeatedDim),
+        ),
+        ([(0, 5)].as_slice(), &rows, &[], 0, Err(Invalid::WrongSort)),
         (
             [].as_slice(),
             [Measure::Sum(0)].as_slice(),
@@ -116,20 +135,20 @@ fn each_reason_is_found(rt: HostRuntime) {
             Err(Invalid::NothingShown),
         ),
         (
-            [0].as_slice(),
+            [(0, 1)].as_slice(),
             &rows,
             [3].as_slice(),
             0,
             Err(Invalid::OrderKey),
         ),
         (
-            [0].as_slice(),
+            [(0, 1)].as_slice(),
             &rows,
             [0].as_slice(),
             0,
             Err(Invalid::OrderKey),
         ),
-        ([0].as_slice(), &rows, &[], 17, Err(Invalid::TooLong)),
+        ([(0, 1)].as_slice(), &rows, &[], 17, Err(Invalid::TooLong)),
     ] {
         let q = query(&rt, alloc, dims, measures, places, predicates);
         assert_eq!(rt;
@@ -144,7 +163,7 @@ fn each_reason_is_found(rt: HostRuntime) {
 fn source_and_listed_values_are_looked_at(rt: HostRuntime) {
     let alloc = rt.alloc();
     let schemas = sales(&rt, alloc);
-    let mut q = query(&rt, alloc, &[0], &[Measure::Rows], &[], 0);
+    let mut q = query(&rt, alloc, &[(0, 1)], &[Measure::Rows], &[], 0);
     q.source = 1;
     assert_eq!(rt; check(&schemas, &q), Err(Invalid::Source));
     q.source = 0;
@@ -158,9 +177,23 @@ fn source_and_listed_values_are_looked_at(rt: HostRuntime) {
 }
 
 #[test]
+fn dimensions_are_counted(rt: HostRuntime) {
+    let alloc = rt.alloc();
+    let schemas = sales(&rt, alloc);
+    for (count, want) in [(64, Ok(())), (65, Err(Invalid::TooLong))] {
+        let mut q = query(&rt, alloc, &[], &[], &[], 0);
+        for width in 1..=count {
+            let dim = Dim::new(1, width).expect(&rt, "a width");
+            assert!(rt; q.dims.push(dim).is_ok());
+        }
+        assert_eq!(rt; check(&schemas, &q), want, "{count} dimensions");
+    }
+}
+
+#[test]
 fn canonical_form_is_ascending(rt: HostRuntime) {
     let alloc = rt.alloc();
-    let mut q = query(&rt, alloc, &[0], &[Measure::Rows], &[], 0);
+    let mut q = query(&rt, alloc, &[(0, 1)], &[Measure::Rows], &[], 0);
     let mut want = Predicates::new(alloc);
     let inverted = Test::Between(Some(2021), Some(2020));
     let regions = Test::Among(words(&rt, alloc, &[b"West", b"East", b"West"]));

@@ -1,11 +1,12 @@
 ghost use Rattle.std.specs.List.{list_all, list_any};
 ghost use Rattle.std.specs.Prelude.{◌≡◌, ◌+◌, ◌<◌, ◌==◌, ◌||◌, ◌^◌, nat_eq, nat_le, nat_lt, length, IfErr, IsOk, MatchResult, None, Some, false};
+ghost use Rattle.dq_base.specs.Dims.{dim_eq};
 ghost use Rattle.dq_base.specs.Validity as valid;
 ghost use Rattle.dq_base.specs.Validity.{measured};
 ghost use Rattle.std.specs.Result.{result_err};
 
 use dq_base::{
-    Invalid, Measure, OrderKey, Predicate, Query, Schemas, Sort, Sorts, Test, Value, Values,
+    Dim, Invalid, Measure, OrderKey, Predicate, Query, Schemas, Sort, Sorts, Test, Value, Values,
 };
 
 fn any_filter_out(count: u64, filters: &[Predicate]) -> bool
@@ -14,10 +15,10 @@ fn any_filter_out(count: u64, filters: &[Predicate]) -> bool
     filters.iter().any(|p| count <= u64::from(p.column))
 }
 
-fn any_dim_out(count: u64, dims: &[u32]) -> bool
-    ensures { result ≡ list_any (nat_le count) dims.now }
+fn any_dim_out(count: u64, dims: &[Dim]) -> bool
+    ensures { result ≡ list_any (λ d. nat_le count d.column) dims.now }
 {
-    dims.iter().any(|c| count <= u64::from(*c))
+    dims.iter().any(|d| count <= u64::from(d.column()))
 }
 
 fn measure_out(count: u64, m: Measure) -> bool
@@ -48,32 +49,30 @@ fn column_missing(count: u64, q: &Query) -> bool
         || any_measure_out(count, q.measures.as_slice())
 }
 
-fn contains(dims: &[u32], column: u32) -> bool
-    ensures { result ≡ list_any (nat_eq column) dims.now }
+fn is_same(a: &Dim, b: &Dim) -> bool
+    ensures { result ≡ dim_eq a.now b.now }
 {
-    dims.iter().any(|d| column == *d)
+    a.column() == b.column() && a.width() == b.width()
 }
 
-fn repeats(dims: &[u32]) -> bool
+fn contains(dims: &[Dim], dim: &Dim) -> bool
+    ensures { result ≡ list_any (dim_eq dim.now) dims.now }
+{
+    dims.iter().any(|d| is_same(dim, d))
+}
+
+// Each dimension is compared with those behind it.
+fn repeats(dims: &[Dim]) -> bool
     ensures { result ≡ valid.repeats dims.now }
 {
-    match dims.split_first() {
-        None => false,
-        Some((first, others)) => contains(others, *first) || repeats(others),
+    let mut rest = dims;
+    while let Some((first, others)) = rest.split_first() {
+        if contains(others, first) {
+            return true;
+        }
+        rest = others;
     }
-}
-
-// Of dimensions that are all in range, more than there are columns repeat. So no more than those are compared.
-fn repeats_dim(count: u64, q: &Query) -> bool
-    requires { valid.column_missing count q.now ≡ false }
-    ensures { result ≡ valid.repeats q.now.dims }
-{
-    let dims = q.dims.as_slice();
-    let shown = dims.len() as u64;
-    if count < shown {
-        return true;
-    }
-    repeats(dims)
+    false
 }
 
 fn is_whole(sorts: &Sorts, column: u32) -> bool
@@ -130,10 +129,30 @@ fn filters_fit(sorts: &Sorts, filters: &[Predicate]) -> bool
         .all(|p| test_fits(is_whole(sorts, p.column), &p.test))
 }
 
+fn dim_fits(sorts: &Sorts, d: &Dim) -> bool
+    ensures { result ≡ valid.dim_fits sorts.now d.now }
+{
+    d.width() == 1 || is_whole(sorts, d.column())
+}
+
+fn dims_fit(sorts: &Sorts, dims: &[Dim]) -> bool
+    ensures { result ≡ list_all (valid.dim_fits sorts.now) dims.now }
+{
+    dims.iter().all(|d| dim_fits(sorts, d))
+}
+
 fn measures_fit(sorts: &Sorts, measures: &[Measure]) -> bool
     ensures { result ≡ list_all (valid.measure_fits sorts.now) measures.now }
 {
     measures.iter().all(|m| measure_fits(sorts, *m))
+}
+
+fn sorts_fit(sorts: &Sorts, q: &Query) -> bool
+    ensures { result ≡ valid.sorts_fit sorts.now q.now }
+{
+    filters_fit(sorts, q.filters.as_slice())
+        && dims_fit(sorts, q.dims.as_slice())
+        && measures_fit(sorts, q.measures.as_slice())
 }
 
 fn places_missing(shown: u64, order: &[OrderKey]) -> bool
@@ -164,6 +183,7 @@ fn too_long(q: &Query) -> bool
     ensures { result ≡ valid.too_long q.now }
 {
     q.filters.len() > 16
+        || q.dims.len() > 64
         || q.measures.len() > 512
         || q.order.len() > 64
         || any_list_too_long(q.filters.as_slice())
@@ -176,11 +196,9 @@ fn first_reason(sorts: &Sorts, q: &Query) -> Result<(), Invalid>
     let count = sorts.len();
     if column_missing(count, q) {
         Err(Invalid::Column)
-    } else if repeats_dim(count, q) {
+    } else if repeats(q.dims.as_slice()) {
         Err(Invalid::RepeatedDim)
-    } else if !(filters_fit(sorts, q.filters.as_slice())
-        && measures_fit(sorts, q.measures.as_slice()))
-    {
+    } else if !sorts_fit(sorts, q) {
         Err(Invalid::WrongSort)
     } else if shown == 0 {
         Err(Invalid::NothingShown)
@@ -196,7 +214,8 @@ fn first_reason(sorts: &Sorts, q: &Query) -> Result<(), Invalid>
 /// Whether a query is valid against the schemas of the extracts; else the first reason why it isn't.
 ///
 /// The reasons are looked for in the order of `Invalid`. It takes no memory, and the time of reading the query once and of
-/// comparing its dimensions with one another, if there are no more of them than columns.
+/// comparing its dimensions with one another in pairs: half the square of their number, since more dimensions than an answer
+/// may have are looked at for repeats before they are too many.
 pub fn check(schemas: &Schemas, q: &Query) -> Result<(), Invalid>
     ensures { result_err result ≡ valid.invalid_by schemas.now q.now }
 {
