@@ -1,5 +1,6 @@
 pub mod Behind
+pub mod Blended
 pub mod Fine
 pub mod Reached
 pub mod Refused
-pub mod Scripts
+pub mod Shows
