@@ -9,7 +9,11 @@ use dq_fold::Fold;
 use std::alloc::Global;
 
 /// Adds the rows of the segment at a place to a fold of the rows before them.
-fn add_segment(fold: &mut Fold, segments: &SegmentList, place: u64) -> Result<(), Memory>
+fn add_segment<'a>(
+    fold: &mut Fold<'a>,
+    segments: &SegmentList,
+    place: u64,
+) -> Result<(), Memory>
     requires there { place < length segments.now }
     requires few { length (rows_in segments.now) ≤ 2 ^ 23 }
     requires before { fold.old ≡ folded fold.old.key (rows_in (take place segments.now)) }

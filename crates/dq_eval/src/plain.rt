@@ -1,30 +1,21 @@
-ghost use Rattle.std.specs.Prelude.{◌≡◌, ◌*◌, ◌^◌, ◌≤◌, ◌++◌, ◌∷◌, [], pos, IfOk, OnOk, length, map, unsigned_abs};
-ghost use Rattle.std.specs.List.{fold};
-ghost use Rattle.dq_base.specs.Answers.{answer, average_of, cell_of, fold_of, greater, greatest_of, group_row, is_present, key_of, keys_of, least_of, lesser, plain, present, rows_with, sum_of, total};
-ghost use Rattle.dq_base.specs.Filters.{kept, value_at};
-ghost use Rattle.dq_base.specs.Orders.{key_cmp, value_cmp};
-ghost use Rattle.dq_base.specs.Sets.{set_of};
-ghost use Rattle.dq_base.specs.declared.cell.Cell.TheVariants.{Whole};
-
 use dq_base::{
-    Canon, Cell, Cells, Duplicate, List, Measure, Memory, Query, Ratio, Table, Value, Values,
-    compare_keys, compare_values, put,
+    Canon, Cell, Cells, Dim, Duplicate, List, Measure, Memory, OrderKey, Query, Ratio, Table, Text,
+    Value, Values, compare_cells, compare_keys, put,
 };
 use dq_extract::Extract;
-use dq_fold::{cell_from, first_of, is_kept, sort_rows};
+use dq_fold::passes;
 use std::alloc::Global;
+use std::cmp::Ordering;
 
 /// Copies those rows that a query keeps to the end of a list.
 fn copy_kept(
     alloc: Global,
-    key: &Canon,
+    q: &Query,
     rows: &[Values],
     copies: &mut List<Values>,
-) -> Result<(), Memory>
-    ensures { OnOk result (copies.new ≡ copies.old ++ kept key.now rows.now) }
-{
+) -> Result<(), Memory> {
     for row in rows {
-        if is_kept(key.query(), row.as_slice()) {
+        if passes(&q.filters, row.as_slice()) {
             copies.push(row.duplicate(alloc)?)?;
         }
     }
@@ -32,81 +23,54 @@ fn copy_kept(
 }
 
 /// The rows of an extract that a query keeps.
-fn kept_rows(alloc: Global, extract: &Extract, key: &Canon) -> Result<List<Values>, Memory>
-    ensures { IfOk result (λ rows. rows ≡ kept key.now extract.now.rows) }
-{
+fn kept_rows(alloc: Global, extract: &Extract, q: &Query) -> Result<List<Values>, Memory> {
     let segments = extract.segments();
     let mut rows = List::new(alloc);
     for place in 0..segments.len() {
-        let Some(segment) = segments.get(place) else {
-            unreachable!();
-        };
-        copy_kept(alloc, key, segment.rows(), &mut rows)?;
+        if let Some(segment) = segments.get(place) {
+            copy_kept(alloc, q, segment.rows(), &mut rows)?;
+        }
     }
     Ok(rows)
 }
 
-/// The row's value in a column, null where the row has none.
-fn value_in(alloc: Global, row: &Values, column: u32) -> Result<Value, Memory>
-    ensures { IfOk result (λ v. v ≡ value_at row.now column) }
-{
-    match row.get(u64::from(column)) {
+/// A dimension's value in a row.
+fn value_in(alloc: Global, row: &Values, dim: &Dim) -> Result<Value, Memory> {
+    match row.get(u64::from(dim.column())) {
+        Some(Value::Int(n)) => Ok(Value::Int(dim.band(*n))),
         Some(v) => v.duplicate(alloc),
         None => Ok(Value::Null),
     }
 }
 
 /// A row's values in the dimensions.
-fn key_from(alloc: Global, dims: &[u32], row: &Values) -> Result<Values, Memory>
-    ensures { IfOk result (λ key. key ≡ key_of dims.now row.now) }
-{
-    let mut key = List::with_capacity(alloc, dims.len() as u64)?;
-    for column in dims {
-        key.push(value_in(alloc, row, *column)?)?;
+fn key_from(alloc: Global, dims: &[Dim], row: &Values) -> Result<Values, Memory> {
+    let mut key = List::new(alloc);
+    for dim in dims {
+        key.push(value_in(alloc, row, dim)?)?;
     }
     Ok(key)
 }
 
-/// The different keys of rows, ascending.
-fn different_keys(alloc: Global, dims: &[u32], rows: &[Values]) -> Result<List<Values>, Memory>
-    ensures { IfOk result (λ keys. keys ≡ set_of key_cmp (map (key_of dims.now) rows.now)) }
-{
+/// The groups' keys, ascending: without dimensions the empty one, also over no rows.
+fn keys_over(alloc: Global, dims: &[Dim], rows: &[Values]) -> Result<List<Values>, Memory> {
     let mut keys = List::new(alloc);
+    if dims.is_empty() {
+        keys.push(List::new(alloc))?;
+    }
     for row in rows {
         put(&mut keys, key_from(alloc, dims, row)?)?;
     }
     Ok(keys)
 }
 
-/// The one empty key.
-fn empty_key(alloc: Global) -> Result<List<Values>, Memory>
-    ensures { IfOk result (λ keys. keys ≡ [] ∷ []) }
-{
-    let mut keys = List::new(alloc);
-    keys.push(List::new(alloc))?;
-    Ok(keys)
-}
-
-/// The groups' keys, ascending.
-fn keys_over(alloc: Global, dims: &[u32], rows: &[Values]) -> Result<List<Values>, Memory>
-    ensures { IfOk result (λ keys. keys ≡ keys_of dims.now rows.now) }
-{
-    if dims.is_empty() {
-        return empty_key(alloc);
-    }
-    different_keys(alloc, dims, rows)
-}
-
 /// The rows that have a key.
 fn rows_under(
     alloc: Global,
-    dims: &[u32],
+    dims: &[Dim],
     key: &Values,
     rows: &[Values],
-) -> Result<List<Values>, Memory>
-    ensures few { IfOk result (λ group. length group ≤ length rows.now) }
-    ensures rows { IfOk result (λ group. group ≡ rows_with dims.now key.now rows.now) }
-{
+) -> Result<List<Values>, Memory> {
     let mut group = List::new(alloc);
     for row in rows {
         let other = key_from(alloc, dims, row)?;
@@ -117,231 +81,136 @@ fn rows_under(
     Ok(group)
 }
 
-/// Whether a value isn't null.
-fn is_filled(v: &Value) -> bool
-    ensures { result ≡ is_present v.now }
-{
-    match v {
-        Value::Null => false,
-        Value::Int(_) => true,
-        Value::Word(_) => true,
-    }
-}
-
 /// The values of a column that aren't null.
-fn present_values(alloc: Global, column: u32, rows: &[Values]) -> Result<Values, Memory>
-    ensures few { IfOk result (λ values. length values ≤ length rows.now) }
-    ensures values { IfOk result (λ values. values ≡ present column rows.now) }
-{
+fn present_values(alloc: Global, column: u32, rows: &[Values]) -> Result<Values, Memory> {
     let mut values = List::new(alloc);
     for row in rows {
-        let v = value_in(alloc, row, column)?;
-        if is_filled(&v) {
-            values.push(v)?;
+        match row.get(u64::from(column)) {
+            None | Some(Value::Null) => {}
+            Some(v) => values.push(v.duplicate(alloc)?)?,
         }
     }
     Ok(values)
 }
 
-/// How many there are, as a cell.
-fn count_from(count: u64) -> Cell
-    ensures { result ≡ Whole (pos count) }
-{
-    Cell::Whole(i128::from(count))
-}
-
-/// The sum of values, of which texts and nulls count as 0.
-fn total_from(values: &[Value]) -> i128
-    requires { length values.now ≤ 2 ^ 23 }
-    ensures sum { result ≡ total values.now }
-    ensures small { unsigned_abs result ≤ 2 ^ 63 * length values.now }
-{
-    let mut sum = 0;
-    for v in values {
-        if let Value::Int(n) = v {
-            sum += i128::from(*n);
-        }
-    }
-    sum
-}
-
-/// The sum of values, or null over none.
-fn sum_from(values: &[Value]) -> Cell
-    requires { length values.now ≤ 2 ^ 23 }
-    ensures { result ≡ sum_of values.now }
-{
-    if values.is_empty() {
-        return Cell::Null;
-    }
-    Cell::Whole(total_from(values))
-}
-
-/// The sum of values over their count, not reduced, or null over none.
-fn average_from(values: &[Value]) -> Cell
-    requires { length values.now ≤ 2 ^ 23 }
-    ensures { result ≡ average_of values.now }
-{
-    if values.is_empty() {
-        return Cell::Null;
-    }
-    match Ratio::new(total_from(values), values.len() as u64) {
-        Some(ratio) => Cell::Ratio(ratio),
-        None => unreachable!(),
-    }
-}
-
-/// The first of the least among a value and those behind it.
-fn least_from<'a>(first: &'a Value, others: &'a [Value]) -> &'a Value
-    ensures { result.now ≡ fold lesser first.now others.now }
-{
-    let mut best = first;
-    for v in others {
-        if compare_values(v, best).is_lt() {
-            best = v;
-        }
-    }
-    best
-}
-
-/// The first of the greatest among a value and those behind it.
-fn greatest_from<'a>(first: &'a Value, others: &'a [Value]) -> &'a Value
-    ensures { result.now ≡ fold greater first.now others.now }
-{
-    let mut best = first;
-    for v in others {
-        if compare_values(v, best).is_gt() {
-            best = v;
-        }
-    }
-    best
-}
-
-/// The least of values, or null over none.
-fn least_cell(alloc: Global, values: &[Value]) -> Result<Cell, Memory>
-    ensures { IfOk result (λ cell. cell ≡ least_of values.now) }
-{
-    match values.split_first() {
-        None => Ok(Cell::Null),
-        Some((first, others)) => cell_from(alloc, least_from(first, others)),
-    }
-}
-
-/// The greatest of values, or null over none.
-fn greatest_cell(alloc: Global, values: &[Value]) -> Result<Cell, Memory>
-    ensures { IfOk result (λ cell. cell ≡ greatest_of values.now) }
-{
-    match values.split_first() {
-        None => Ok(Cell::Null),
-        Some((first, others)) => cell_from(alloc, greatest_from(first, others)),
-    }
-}
-
 /// The different values, ascending.
-fn different_values(alloc: Global, values: &[Value]) -> Result<Values, Memory>
-    ensures { IfOk result (λ set. set ≡ set_of value_cmp values.now) }
-{
+fn different(alloc: Global, values: Values) -> Result<Values, Memory> {
     let mut set = List::new(alloc);
-    for v in values {
+    for v in values.as_slice() {
         put(&mut set, v.duplicate(alloc)?)?;
     }
     Ok(set)
 }
 
-/// A measure over rows.
-fn measure_over(alloc: Global, m: Measure, rows: &[Values]) -> Result<Cell, Memory>
-    requires { length rows.now ≤ 2 ^ 23 }
-    ensures { IfOk result (λ cell. cell ≡ fold_of m rows.now) }
-{
+/// The sum of a few small numbers, null over nothing.
+fn sum_from(values: &Values) -> Cell {
+    let mut sum: i128 = 0;
+    for v in values.as_slice() {
+        if let Value::Int(n) = v {
+            sum = sum.wrapping_add(i128::from(*n));
+        }
+    }
+    if values.len() == 0 {
+        Cell::Null
+    } else {
+        Cell::Whole(sum)
+    }
+}
+
+/// The sum over the count, null over nothing.
+fn average_from(values: &Values) -> Cell {
+    match sum_from(values) {
+        Cell::Whole(sum) => match Ratio::new(sum, values.len()) {
+            Some(ratio) => Cell::Ratio(ratio),
+            None => Cell::Null,
+        },
+        _ => Cell::Null,
+    }
+}
+
+fn count_from(count: u64) -> Cell {
+    Cell::Whole(i128::from(count))
+}
+
+/// The cell of a value, null for none.
+fn cell_from(alloc: Global, v: Option<&Value>) -> Result<Cell, Memory> {
+    match v {
+        None | Some(Value::Null) => Ok(Cell::Null),
+        Some(Value::Int(n)) => Ok(Cell::Whole(i128::from(*n))),
+        Some(Value::Word(text)) => Ok(Cell::Word(Text::copy_of(alloc, text.bytes())?)),
+    }
+}
+
+/// A measure over rows. The least value is the first of the different ones, and the greatest the last.
+fn measure_over(alloc: Global, m: Measure, rows: &[Values]) -> Result<Cell, Memory> {
     match m {
         Measure::Rows => Ok(count_from(rows.len() as u64)),
         Measure::Count(c) => Ok(count_from(present_values(alloc, c, rows)?.len())),
-        Measure::Sum(c) => Ok(sum_from(present_values(alloc, c, rows)?.as_slice())),
-        Measure::Min(c) => least_cell(alloc, present_values(alloc, c, rows)?.as_slice()),
-        Measure::Max(c) => greatest_cell(alloc, present_values(alloc, c, rows)?.as_slice()),
-        Measure::Distinct(c) => {
-            let values = present_values(alloc, c, rows)?;
-            Ok(count_from(different_values(alloc, values.as_slice())?.len()))
+        Measure::Sum(c) => Ok(sum_from(&present_values(alloc, c, rows)?)),
+        Measure::Min(c) => {
+            let set = different(alloc, present_values(alloc, c, rows)?)?;
+            cell_from(alloc, set.as_slice().first())
         }
-        Measure::Avg(c) => Ok(average_from(present_values(alloc, c, rows)?.as_slice())),
+        Measure::Max(c) => {
+            let set = different(alloc, present_values(alloc, c, rows)?)?;
+            cell_from(alloc, set.as_slice().last())
+        }
+        Measure::Distinct(c) => {
+            let set = different(alloc, present_values(alloc, c, rows)?)?;
+            Ok(count_from(set.len()))
+        }
+        Measure::Avg(c) => Ok(average_from(&present_values(alloc, c, rows)?)),
     }
 }
 
 /// The cells of a key.
-fn key_cells(alloc: Global, key: &[Value]) -> Result<Cells, Memory>
-    ensures { IfOk result (λ cells. cells ≡ map cell_of key.now) }
-{
-    let mut cells = List::with_capacity(alloc, key.len() as u64)?;
-    for v in key {
-        cells.push(cell_from(alloc, v)?)?;
+fn key_cells(alloc: Global, key: &Values) -> Result<Cells, Memory> {
+    let mut cells = List::new(alloc);
+    for v in key.as_slice() {
+        cells.push(cell_from(alloc, Some(v))?)?;
     }
     Ok(cells)
-}
-
-/// Puts each measure over rows at the end of a row of the answer.
-fn push_measures(
-    alloc: Global,
-    measures: &[Measure],
-    rows: &[Values],
-    cells: &mut Cells,
-) -> Result<(), Memory>
-    requires { length rows.now ≤ 2 ^ 23 }
-    ensures { OnOk result (cells.new ≡ cells.old ++ map (λ m. fold_of m rows.now) measures.now) }
-{
-    for m in measures {
-        cells.push(measure_over(alloc, *m, rows)?)?;
-    }
-    Ok(())
 }
 
 /// The answer's row of a key, over the rows that the query keeps.
-fn group_from(alloc: Global, q: &Query, rows: &[Values], key: &Values) -> Result<Cells, Memory>
-    requires { length rows.now ≤ 2 ^ 23 }
-    ensures { IfOk result (λ cells. cells ≡ group_row q.now rows.now key.now) }
-{
+fn group_row(alloc: Global, q: &Query, rows: &[Values], key: &Values) -> Result<Cells, Memory> {
     let group = rows_under(alloc, q.dims.as_slice(), key, rows)?;
-    let mut cells = key_cells(alloc, key.as_slice())?;
-    push_measures(alloc, q.measures.as_slice(), group.as_slice(), &mut cells)?;
+    let mut cells = key_cells(alloc, key)?;
+    for m in q.measures.as_slice() {
+        cells.push(measure_over(alloc, *m, group.as_slice())?)?;
+    }
     Ok(cells)
 }
 
-/// The answer's rows of these keys.
-fn groups_from(
-    alloc: Global,
-    q: &Query,
-    rows: &[Values],
-    keys: &[Values],
-) -> Result<Vec<Cells>, Memory>
-    requires { length rows.now ≤ 2 ^ 23 }
-    ensures { IfOk result (λ table. table.items ≡ map (group_row q.now rows.now) keys.now) }
-{
+/// How two rows compare by the order keys in turn.
+fn compare_by(order: &[OrderKey], a: &Cells, b: &Cells) -> Ordering {
+    for key in order {
+        let at = u64::from(key.place.saturating_sub(1));
+        let turn = match (a.get(at), b.get(at)) {
+            (Some(x), Some(y)) => compare_cells(x, y),
+            _ => Ordering::Equal,
+        };
+        if turn.is_ne() {
+            return if key.down { turn.reverse() } else { turn };
+        }
+    }
+    Ordering::Equal
+}
+
+/// The answer of a valid query over an extract's rows, straight from the definition: each group goes through all the rows, and
+/// each measure through all of its group's. Rows that tie stay in the order of their keys.
+pub fn evaluate_plainly(alloc: Global, extract: &Extract, key: &Canon) -> Result<Table, Memory> {
+    let q = key.query();
+    let rows = kept_rows(alloc, extract, q)?;
+    let keys = keys_over(alloc, q.dims.as_slice(), rows.as_slice())?;
     let mut table = Vec::new(alloc);
-    for key in keys {
-        table.push(group_from(alloc, q, rows, key)?)?;
+    for group in keys.as_slice() {
+        table.push(group_row(alloc, q, rows.as_slice(), group)?)?;
+    }
+    table.sort_by(|a, b| compare_by(q.order.as_slice(), a, b))?;
+    let mut table = List::from_vec(table);
+    if let Some(count) = q.top {
+        table.truncate(u64::from(count));
     }
     Ok(table)
-}
-
-/// The answer's rows in the order of keys.
-fn plain_rows(alloc: Global, extract: &Extract, key: &Canon) -> Result<Vec<Cells>, Memory>
-    ensures { IfOk result (λ table. table.items ≡ plain key.now extract.now.rows) }
-{
-    let _schema = extract.schema();
-    let q = key.query();
-    let rows = kept_rows(alloc, extract, key)?;
-    let keys = keys_over(alloc, q.dims.as_slice(), rows.as_slice())?;
-    groups_from(alloc, q, rows.as_slice(), keys.as_slice())
-}
-
-/// The answer of a query over an extract's rows, straight from the definition: each group goes through all the rows, and each
-/// measure through all of its group's. It is there to compare `evaluate` with.
-///
-/// It costs the rows times the groups, and the rows times the measures; a measure of different values costs its rows times
-/// these. The rows and their keys are copied as often.
-pub fn evaluate_plainly(alloc: Global, extract: &Extract, key: &Canon) -> Result<Table, Memory>
-    ensures { IfOk result (λ table. table ≡ answer key.now extract.now.rows) }
-{
-    let q = key.query();
-    let mut rows = plain_rows(alloc, extract, key)?;
-    sort_rows(q, &mut rows)?;
-    Ok(first_of(List::from_vec(rows), q.top))
 }

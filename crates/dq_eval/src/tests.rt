@@ -5,9 +5,10 @@ ghost use Rattle.dq_base.specs.Canonical.{canonical_predicate, predicate_cmp};
 ghost use Rattle.dq_base.specs.Sets.{set_of};
 ghost use Rattle.dq_base.specs.Versions.{cells_of};
 
-use crate::{evaluate, evaluate_plainly};
+use crate::evaluate;
+use crate::plain::evaluate_plainly;
 use dq_base::{
-    Canon, Cell, Cells, Duplicate, List, Measure, OrderKey, OrderKeys, Predicate, Predicates,
+    Canon, Cell, Cells, Dim, Dims, Duplicate, List, Measure, OrderKey, OrderKeys, Predicate, Predicates,
     Query, Schema, Sort, Sorts, Table, Test, Text, Texts,
 };
 use dq_extract::{Extract, Segment, load};
@@ -52,7 +53,9 @@ fn three_sorts(rt: &impl Abort, alloc: Global) -> Sorts
 fn three_columns(rt: &impl Abort, alloc: Global) -> Schema
     ensures { 0 < length result.names }
 {
-    Schema::new(three_names(rt, alloc), three_sorts(rt, alloc))
+    Schema::new(alloc, three_names(rt, alloc), three_sorts(rt, alloc))
+        .ok()
+        .expect(rt, "memory")
 }
 
 // The shared segment of a file of five rows at most.
@@ -147,17 +150,27 @@ fn order(rt: &impl Abort, alloc: Global, down: Option<u32>) -> OrderKeys {
 #[derive(Clone, Copy)]
 struct Asked<'a> {
     until: Option<i64>,
-    dims: &'a [u32],
+    dims: &'a [(u32, u32)],
     measures: &'a [Measure],
     down: Option<u32>,
     top: Option<u32>,
+}
+
+// The dimensions of these columns and widths.
+fn dims(rt: &impl Abort, alloc: Global, items: &[(u32, u32)]) -> Dims {
+    let mut dims = Dims::new(alloc);
+    for (column, width) in items {
+        let dim = Dim::new(*column, *width).expect(rt, "a width");
+        assert!(rt; dims.push(dim).is_ok());
+    }
+    dims
 }
 
 fn query(rt: &impl Abort, alloc: Global, asked: &Asked<'_>) -> Canon {
     Canon::new(Query {
         source: 0,
         filters: filters(rt, alloc, asked.until),
-        dims: List::from_vec(asked.dims.to_vec(alloc).ok().expect(rt, "memory")),
+        dims: dims(rt, alloc, asked.dims),
         measures: List::from_vec(asked.measures.to_vec(alloc).ok().expect(rt, "memory")),
         order: order(rt, alloc, asked.down),
         top: asked.top,
@@ -234,7 +247,7 @@ fn groups_are_told(rt: HostRuntime) {
     let alloc = rt.alloc();
     let by_region = Asked {
         until: None,
-        dims: &[0],
+        dims: &[(0, 1)],
         measures: &[Measure::Sum(2), Measure::Rows],
         down: None,
         top: None,
@@ -264,11 +277,73 @@ fn totals_are_told(rt: HostRuntime) {
 }
 
 #[test]
+fn bands_are_told(rt: HostRuntime) {
+    let alloc = rt.alloc();
+    let by_fives = Asked {
+        until: None,
+        dims: &[(2, 5)],
+        measures: &[Measure::Rows],
+        down: None,
+        top: None,
+    };
+    check_sales(&rt, alloc, &by_fives, "-|1|;0|1|;1|2|;2|1|;");
+}
+
+// Both evaluations answer alike over an extract, ordered in each way and with and without a top.
+fn check_alike(rt: &impl Abort, alloc: Global, extract: &Extract, asked: &Asked<'_>) {
+    for (down, top) in [
+        (None, None),
+        (Some(1), None),
+        (Some(2), Some(2)),
+        (None, Some(0)),
+    ] {
+        let asked = Asked {
+            down,
+            top,
+            ..*asked
+        };
+        let key = query(rt, alloc, &asked);
+        let quick = spell_quick(rt, alloc, extract, &key);
+        let plain = spell_plain(rt, alloc, extract, &key);
+        assert_eq!(rt; quick.bytes(), plain.bytes());
+    }
+}
+
+#[test]
+fn evaluations_are_alike(rt: HostRuntime) {
+    let alloc = rt.alloc();
+    let extract = sales_in_two(&rt, alloc);
+    for until in [None, Some(2020), Some(1999)] {
+        for dims in [
+            [].as_slice(),
+            [(2, 3)].as_slice(),
+            [(1, 1000), (0, 1)].as_slice(),
+        ] {
+            let asked = Asked {
+                until,
+                dims,
+                measures: &[
+                    Measure::Rows,
+                    Measure::Sum(2),
+                    Measure::Avg(2),
+                    Measure::Min(0),
+                    Measure::Max(2),
+                    Measure::Distinct(1),
+                ],
+                down: None,
+                top: None,
+            };
+            check_alike(&rt, alloc, &extract, &asked);
+        }
+    }
+}
+
+#[test]
 fn first_rows_are_told(rt: HostRuntime) {
     let alloc = rt.alloc();
     let largest = Asked {
         until: None,
-        dims: &[0],
+        dims: &[(0, 1)],
         measures: &[Measure::Rows],
         down: Some(2),
         top: Some(2),
@@ -281,7 +356,7 @@ fn kept_rows_are_told(rt: HostRuntime) {
     let alloc = rt.alloc();
     let early = Asked {
         until: Some(2020),
-        dims: &[0],
+        dims: &[(0, 1)],
         measures: &[Measure::Rows, Measure::Min(2)],
         down: None,
         top: None,

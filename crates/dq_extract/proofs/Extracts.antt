@@ -1,5 +1,5 @@
 -- One more segment behind those of an extract.
-use Rattle.std.proofs.Common.{◌≡◌, ◌≤◌, ℕ, ◌+◌, ◌*◌, List, [], ◌∷◌, ◌++◌, length, take, true, refl, ap, sym, ◌∙◌, arith, rules, length-append, Some}
+use Rattle.std.proofs.Common.{◌≡◌, ◌≤◌, ℕ, ◌+◌, ◌*◌, List, [], ◌∷◌, ◌++◌, length, take, true, refl, ◌<◌, ap, sym, ◌∙◌, arith, rules, length-append, add-mul, Some}
 use Rattle.std.proofs.lemmas.Grind.{flat_map-append}
 use Rattle.std.proofs.lemmas.List.{append-nil, take_more}
 use Rattle.std.proofs.lemmas.List.Elements.{All-append}
@@ -10,6 +10,7 @@ use Rattle.std.specs.List.{list_all}
 use Rattle.dq_base.specs.Headings.{Heading}
 use Rattle.dq_base.specs.Limits.{cell_room}
 use Rattle.dq_base.specs.Versions.{Version, IsVersion, cells_of, row_fits}
+use Rattle.dq_extract.proofs.Fits.{fewer}
 use Rattle.dq_extract.specs.Segments.{rows_in, AreUnder, IsExtract}
 
 pub rows_in-push : (versions : List Version) (v : Version) → rows_in (versions ++ v ∷ []) ≡ rows_in versions ++ v.rows
@@ -44,10 +45,14 @@ IsExtract-push heading versions v old new same cells rows =
 -- the same, by equations
 pub IsExtract-next : (heading heading' : Heading) (versions versions' : List Version) (whole v : Version)
     → IsExtract heading versions → record { heading = heading; rows = rows_in versions } ≡ whole → IsVersion v → v.heading ≡ whole.heading
-    → cells_of whole + cells_of v ≤ cell_room → length whole.rows + length v.rows ≤ cell_room
+    → cells_of whole + cells_of v ≤ cell_room → 0 < length v.heading.names
     → heading' ≡ heading → versions' ≡ versions ++ v ∷ []
     → IsExtract heading' versions'
-IsExtract-next heading heading' versions versions' whole v old is new same cells rows same_heading next =
+IsExtract-next heading heading' versions versions' whole v old is new same cells some same_heading next =
+    let columns : length v.heading.names ≡ length whole.heading.names = ap (λ h. length h.names) same in
+    let all : (length whole.rows + length v.rows) * length whole.heading.names ≤ cell_room =
+    omega (arith, cells, ap (λ n. length v.rows * n) columns, add-mul (length whole.rows) (length v.rows) (length whole.heading.names)) in
+    let rows : length whole.rows + length v.rows ≤ cell_room = omega (arith, all, fewer (length whole.rows + length v.rows) (length whole.heading.names) (omega arith)) in
     let pushed = IsExtract-push heading versions v old new (same ∙ ap (λ w. w.heading) (sym is))
     (omega (arith, ap cells_of is)) (omega (arith, ap (λ w. length w.rows) is)) in
     rw (same_heading, next) pushed

@@ -1,5 +1,5 @@
 -- The rows of a file fit their schema.
-use Rattle.std.proofs.Common.{◌≡◌, ℕ, ◌+◌, ◌*◌, ◌^◌, ◌<◌, ◌≤◌, zero, suc, ℤ, List, [], ◌∷◌, length, Bool, true, false, Option, Some, None, refl, ◌∙◌, arith, mul-suc}
+use Rattle.std.proofs.Common.{◌≡◌, ℕ, ◌+◌, ◌*◌, ◌<◌, ◌≤◌, zero, suc, ℤ, List, [], ◌∷◌, length, Bool, true, false, Option, Some, None, refl, ◌∙◌, arith, mul-suc}
 use Rattle.std.proofs.lemmas.Grind.{common_steps}
 use Rattle.std.specs.Prelude.{Result, Ok, Err, if◌then◌else◌, nat_lt, ◌==◌, ◌&&◌, bytes_eq}
 use Rattle.std.specs.Cmp.Lexicographic.{pointwise}
@@ -101,13 +101,14 @@ rows_after-fit heading room [] rows paired is = cc
 rows_after-fit heading room (first ∷ left) rows paired is =
     rows_from-fit heading room 1 left rows paired (header_passed (pointwise bytes_eq heading.names first) Header (rows_from heading room 1 left) rows is)
 
-fewer : (n columns : ℕ) → 0 < columns → n ≤ n * columns
+-- with a column at least there are no more rows than cells
+pub fewer : (n columns : ℕ) → 0 < columns → n ≤ n * columns
 fewer n zero some = absurd (omega arith)
 fewer n (suc m) some = omega (arith, mul-suc n m)
 
 -- the segment of a file
 pub IsSegment-loaded : (heading kept : Heading) (room : ℕ) (left : List (List (List ℕ))) (rows : List (List Value)) → length heading.names ≡ length heading.sorts
-    → 0 < length heading.names → room ≤ 2 ^ 23 → rows_after heading room left ≡ Ok rows → length rows * length heading.names ≤ room → kept ≡ heading
+    → 0 < length heading.names → room ≤ cell_room → rows_after heading room left ≡ Ok rows → length rows * length heading.names ≤ room → kept ≡ heading
     → IsSegment (record { heading = kept; rows = rows })
 IsSegment-loaded heading kept room left rows paired columns few is within same =
     let fit : list_all (row_fits heading.sorts) rows ≡ true = rows_after-fit heading room left rows paired is in

@@ -1,4 +1,5 @@
 pub mod Behind
+pub mod Chunks
 pub mod Columns
 pub mod Counts
 pub mod Extracts

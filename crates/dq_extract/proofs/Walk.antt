@@ -1,16 +1,15 @@
 -- Walks over records and fields.
 use Rattle.std.proofs.Common.{◌≡◌, ◌≢◌, ◌<◌, ◌≤◌, ℕ, ◌+◌, ◌*◌, List, [], ◌∷◌, ◌++◌, length, drop, get_or, true, false, refl, ap, sym, ◌∙◌, arith, append_assoc, Bool, length-append}
-use Rattle.std.proofs.lemmas.Bool.{false≢true}
 use Rattle.std.proofs.lemmas.Grind.{common_steps}
 use Rattle.std.proofs.lemmas.List.{append-nil, drop_more}
-use Rattle.std.specs.Prelude.{Result, Ok, Err, IsErr, nat_lt, ◌==◌, ◌&&◌, not, bytes_eq}
+use Rattle.std.specs.Prelude.{Result, Ok, Err, nat_lt, ◌==◌, ◌&&◌, not, bytes_eq}
 use Rattle.std.specs.Cmp.Lexicographic.{pointwise}
 use Rattle.dq_base.specs.Headings.{Heading}
 use Rattle.dq_base.specs.declared.schema.Sort.{Sort}
 use Rattle.dq_base.specs.declared.value.Value.{Value}
 use Rattle.dq_extract.specs.declared.fault.LoadFault.{LoadFault}
-use Rattle.dq_extract.specs.declared.fault.LoadFault.TheVariants.{Unbuilt, Memory}
-use Rattle.dq_extract.specs.Rows.{RowFault, Answers, rows_from, row_of, values_from, value_of, with_first}
+use Rattle.dq_extract.specs.declared.fault.LoadFault.TheVariants as fault
+use Rattle.dq_extract.specs.Rows.{RowFault, Header, Width, Number, NotText, TooManyCells, Answers, rows_from, row_of, values_from, value_of, with_first}
 
 -- items that stand before those of what follows
 abbrev pub with_all : {X : Type 0} → List X → Result (List X) RowFault → Result (List X) RowFault
@@ -28,25 +27,27 @@ pub with_all-first : {X : Type 0} (xs : List X) (x : X) (more : Result (List X) 
 with_all-first xs x (Err fault) = refl
 with_all-first xs x (Ok ys) = ap Ok (sym (append_assoc xs (x ∷ []) ys))
 
--- a fault stays one
-pub with_first-fault : {X : Type 0} (first : Result X RowFault) (more : Result (List X) RowFault) → IsErr first → IsErr (with_first first more)
-with_first-fault (Err fault) more is = refl
-with_first-fault (Ok x) more is = absurd (false≢true is)
+-- a fault stays the first
+with_first-fault : {X : Type 0} (first : Result X RowFault) (more : Result (List X) RowFault) (f : RowFault) → first ≡ Err f → with_first first more ≡ Err f
+with_first-fault first more f is = rw is refl
 
-pub with_all-fault : {X : Type 0} (xs : List X) (more : Result (List X) RowFault) → IsErr more → IsErr (with_all xs more)
-with_all-fault xs (Err fault) is = refl
-with_all-fault xs (Ok ys) is = absurd (false≢true is)
+with_all-fault : {X : Type 0} (xs : List X) (more : Result (List X) RowFault) (f : RowFault) → more ≡ Err f → with_all xs more ≡ Err f
+with_all-fault xs more f is = rw is refl
 
--- an error that a part answers
-pub Answers-part : {X Y : Type 0} (whole : Result X RowFault) (part : Result Y RowFault) (e : LoadFault) → (IsErr part → IsErr whole)
+-- a fault that a part answers
+pub Answers-part : {X Y : Type 0} (whole : Result X RowFault) (part : Result Y RowFault) (e : LoadFault) → ((f : RowFault) → part ≡ Err f → whole ≡ Err f)
     → Answers part (Err e) → Answers whole (Err e)
-Answers-part whole part Unbuilt fails answer = fails answer
-Answers-part whole part Memory fails answer = tt
+Answers-part whole part fault.Header fails answer = fails Header answer
+Answers-part whole part (fault.Width row) fails answer = fails (Width row) answer
+Answers-part whole part (fault.Number row column) fails answer = fails (Number row column) answer
+Answers-part whole part (fault.NotText row column) fails answer = fails (NotText row column) answer
+Answers-part whole part fault.TooManyCells fails answer = fails TooManyCells answer
+Answers-part whole part fault.Memory fails answer = tt
 
 -- the fault of the item that comes next
 pub next_fault : {X : Type 0} (want : Result (List X) RowFault) (done : List X) (first : Result X RowFault) (more : Result (List X) RowFault)
-    → want ≡ with_all done (with_first first more) → IsErr first → IsErr want
-next_fault want done first more so_far is = rw so_far (with_all-fault done (with_first first more) (with_first-fault first more is))
+    → want ≡ with_all done (with_first first more) → (f : RowFault) → first ≡ Err f → want ≡ Err f
+next_fault want done first more so_far f is = so_far ∙ with_all-fault done (with_first first more) f (with_first-fault first more f is)
 
 -- the item that comes next
 pub next_item : {X : Type 0} (want : Result (List X) RowFault) (done : List X) (first : Result X RowFault) (x : X) (more : Result (List X) RowFault)
@@ -65,13 +66,13 @@ values_from-drop row i sorts fields d field sort_there field_there at_field =
 
 -- a row of another width
 pub width_at : (heading : Heading) (room row : ℕ) (fields : List (List ℕ))
-    → length fields ≢ length heading.names → IsErr (row_of heading room row fields)
+    → length fields ≢ length heading.names → row_of heading room row fields ≡ Err (Width row)
 width_at heading room row fields other =
     let test : (length fields == length heading.names) ≡ false = grind (arith, common_steps) in rw test refl
 
 -- a row with which the cells are too many
 pub cells_at : (heading : Heading) (room row : ℕ) (fields : List (List ℕ))
-    → length fields ≡ length heading.names → room < row * length heading.names → IsErr (row_of heading room row fields)
+    → length fields ≡ length heading.names → room < row * length heading.names → row_of heading room row fields ≡ Err TooManyCells
 cells_at heading room row fields same above =
     let width : (length fields == length heading.names) ≡ true = grind (arith, common_steps) in
     let cells : nat_lt room (row * length heading.names) ≡ true = grind (arith, common_steps) in

@@ -1,9 +1,6 @@
 -- Segments, shared and one behind the other.
-use Rattle.std.specs.Prelude.{◌≡◌, ◌<◌, List, length, map, All}
-use Rattle.std.specs.Arc.{arc_value}
+use Rattle.std.specs.Prelude.{◌≡◌, ◌<◌, List, length, All}
 use Rattle.std.specs.List.{flat_map}
-use Rattle.std.specs.declared.alloc.Global.{Global}
-use Rattle.std.specs.declared.sync.Arc.{Arc}
 use Rattle.dq_base.specs.Headings.{Heading}
 use Rattle.dq_base.specs.Versions.{Version, IsVersion}
 use Rattle.dq_base.specs.declared.value.Value.{Value}
@@ -12,10 +9,6 @@ use Rattle.dq_base.specs.declared.value.Value.{Value}
 pub record IsSegment (v : Version) : Type 0 where
   pub version : IsVersion v
   pub columns : 0 < length v.heading.names
-
--- what each owner owns
-abbrev pub values_of : List (Arc Version Global) → List Version
-values_of owners = map arc_value owners
 
 -- the rows of these versions, one version behind the other
 abbrev pub rows_in : List Version → List (List Value)

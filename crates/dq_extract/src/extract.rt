@@ -1,5 +1,5 @@
 ghost use Rattle.std.specs.Arc.{arc_value};
-ghost use Rattle.std.specs.Prelude.{◌≡◌, ◌+◌, ◌≤◌, [], ◌++◌, IfOk, length};
+ghost use Rattle.std.specs.Prelude.{◌≡◌, ◌+◌, ◌≤◌, [], ◌++◌, IfOk};
 ghost use Rattle.dq_base.specs.Limits.{cell_room};
 ghost use Rattle.dq_base.specs.Versions.{IsVersion, cells_of};
 ghost use Rattle.dq_extract.specs.Segments.{AreUnder, rows_in};
@@ -36,6 +36,7 @@ impl Extract {
     pub fn empty(alloc: Global, schema: Schema) -> Extract
         ensures { result ≡ record { heading = schema; rows = [] } }
     {
+        // Reading the names brings to the proof that there are as many sorts.
         let _names = schema.names();
         Extract {
             schema,
@@ -59,27 +60,30 @@ impl Extract {
         &self.segments
     }
 
-    /// The version with this segment's rows alone. They are shared, not copied.
+    /// The version with this segment's rows alone. They are shared, not copied. How rows are split into segments means nothing:
+    /// a version is its heading and its rows.
     pub fn replaced(&self, alloc: Global, segment: &Arc<Segment>) -> Result<Extract, Memory>
         requires { (arc_value segment.now).heading ≡ self.now.heading }
         ensures heading { IfOk result (λ extract. extract.heading ≡ self.now.heading) }
         ensures rows { IfOk result (λ extract. extract.rows ≡ (arc_value segment.now).rows) }
     {
+        // Counting brings to the proof what a segment is.
         let _count = segment.count();
         let schema = self.schema.duplicate(alloc)?;
         let mut segments = SegmentList::new(alloc);
         segments.push(Arc::try_clone(segment)?)?;
         Ok(Extract { schema, segments })
     }
-    /// The version with this segment's rows behind the standing ones. Rows are shared, not copied: the cost is linear in the
-    /// number of segments.
+
+    /// The version with this segment's rows behind the standing ones. Rows are shared, not copied: behind `n` segments it
+    /// costs `n / 512` and 512 owners.
     pub fn appended(&self, alloc: Global, segment: &Arc<Segment>) -> Result<Extract, Memory>
         requires heading { (arc_value segment.now).heading ≡ self.now.heading }
         requires cells { cells_of self.now + cells_of (arc_value segment.now) ≤ cell_room }
-        requires rows { length self.now.rows + length (arc_value segment.now).rows ≤ cell_room }
         ensures heading { IfOk result (λ extract. extract.heading ≡ self.now.heading) }
         ensures rows { IfOk result (λ extract. extract.rows ≡ self.now.rows ++ (arc_value segment.now).rows) }
     {
+        // Counting brings to the proof what a segment is.
         let _count = segment.count();
         let schema = self.schema.duplicate(alloc)?;
         let mut segments = self.segments.duplicate(alloc)?;

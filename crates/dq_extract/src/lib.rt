@@ -14,6 +14,7 @@ mod extract;
 mod fault;
 mod loaded;
 mod loading;
+mod owners;
 mod records;
 mod segment;
 mod segments;

@@ -1,8 +1,7 @@
 ghost use Rattle.std.specs.Arc.{arc_value};
 ghost use Rattle.std.specs.List.{flat_map};
-ghost use Rattle.std.specs.Option.{option_copied};
 ghost use Rattle.std.specs.Prelude.{◌≡◌, ◌+◌, ◌<◌, ◌^◌, IfOk, length, option_map};
-ghost use Rattle.dq_base.specs.Scripts.{numbered, source_in, sources_of, step_of};
+ghost use Rattle.dq_base.specs.Scripts.{source_in, sources_of, step_of};
 ghost use Rattle.dq_extract.specs.Loads.{FitsStep, IsLoaded, before_step, places_from, places_in, segment_of};
 
 use crate::segment::Segment;
@@ -29,16 +28,6 @@ impl Model for Loaded {
     ghost view = { λ l. record { script = l.script; segments = l.segments } };
 
     ghost invariant = { λ l. IsIndexed (record { script = l.script; segments = l.segments }) l.places };
-}
-
-// The item of that number, from 1.
-fn item_at<T>(items: &List<T>, number: u32) -> Option<&T>
-    ensures { option_copied result ≡ numbered items.now number }
-{
-    if number == 0 {
-        return None;
-    }
-    items.get(number as u64 - 1)
 }
 
 // One for a publish step, and none for a batch.
@@ -86,6 +75,7 @@ impl Loaded {
         requires { IsLoaded (record { script = script; segments = segments }) }
         ensures { IfOk result (λ loaded. loaded ≡ record { script = script; segments = segments }) }
     {
+        // Counting brings to the proof that the segments can be counted.
         let _count = segments.len();
         let places = index_of(alloc, script.lanes.as_slice())?;
         Ok(Loaded {
@@ -103,12 +93,20 @@ impl Loaded {
         &self.script
     }
 
+    /// The segments of the publish steps, in order of lanes and steps.
+    pub fn segments(&self) -> &SegmentList
+        ensures segments { result.now ≡ self.now.segments }
+        ensures loaded { IsLoaded self.now }
+    {
+        &self.segments
+    }
+
     // The place of a step's segment, if there is such a step.
     fn place(&self, lane: u32, step: u32) -> Option<u64>
         ensures { result ≡ option_map (λ _. before_step self.now.script.lanes lane step) (step_of self.now.script.lanes lane step) }
     {
-        let places = item_at(&self.places, lane)?;
-        item_at(places, step).copied()
+        let places = self.places.numbered(lane)?;
+        places.numbered(step).copied()
     }
 
     /// The segment of a publish step, or none exactly where there is no such step or it is a batch. Lanes and steps are
@@ -117,7 +115,7 @@ impl Loaded {
         ensures segment { option_map (λ owner. arc_value owner.now) result ≡ segment_of self.now lane step }
         ensures step { FitsStep self.now.script.schemas (step_of self.now.script.lanes lane step) (segment_of self.now lane step) }
     {
-        match item_at(item_at(&self.script.lanes, lane)?, step)? {
+        match self.script.lanes.numbered(lane)?.numbered(step)? {
             Step::Batch(_) => None,
             Step::Publish { .. } => self.segments.get(self.place(lane, step)?),
         }

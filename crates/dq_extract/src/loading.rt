@@ -1,6 +1,7 @@
 ghost use Rattle.std.specs.Cmp.Lexicographic.{pointwise};
-ghost use Rattle.std.specs.Prelude.{◌≡◌, ◌<◌, ◌≤◌, ◌*◌, ◌^◌, ℕ, IfOk, bytes_eq, length};
+ghost use Rattle.std.specs.Prelude.{◌≡◌, ◌<◌, ◌≤◌, ◌*◌, IfOk, bytes_eq, length};
 ghost use Rattle.csv.specs.Records.{fields_of};
+ghost use Rattle.dq_base.specs.Limits.{cell_room};
 ghost use Rattle.dq_base.specs.Versions.{cells_of};
 ghost use Rattle.dq_extract.specs.Rows.{Answers, AnswersLoad, rows_after, rows_from, values_from};
 
@@ -62,7 +63,7 @@ fn read_rows(
     mut records: Records<'_>,
 ) -> Result<List<Values>, LoadFault>
     requires columns { 0 < length schema.now.names }
-    requires room { room ≤ 2 ^ 23 }
+    requires room { room ≤ cell_room }
     ensures rows { Answers (rows_from schema.now room 1 records.entry.left) result }
     ensures cells { IfOk result (λ rows. length rows * length schema.now.names ≤ room) }
 {
@@ -98,7 +99,7 @@ fn read_file(
     mut records: Records<'_>,
 ) -> Result<List<Values>, LoadFault>
     requires columns { 0 < length schema.now.names }
-    requires room { room ≤ 2 ^ 23 }
+    requires room { room ≤ cell_room }
     ensures rows { Answers (rows_after schema.now room records.entry.left) result }
     ensures cells { IfOk result (λ rows. length rows * length schema.now.names ≤ room) }
 {
@@ -122,10 +123,11 @@ fn read_file(
 /// bytes.
 pub fn load(alloc: Global, schema: &Schema, room: u64, bytes: &[u8]) -> Result<Segment, LoadFault>
     requires columns { 0 < length schema.now.names }
-    requires room { room ≤ 2 ^ 23 }
+    requires room { room ≤ cell_room }
     ensures answer { AnswersLoad schema.now room bytes.now result }
     ensures cells { IfOk result (λ segment. cells_of segment ≤ room) }
 {
+    // Reading the names brings to the proof that there are as many sorts.
     let _names = schema.names();
     let rows = read_file(alloc, schema, room, Records::new(alloc, bytes))?;
     let kept = schema.duplicate(alloc)?;

@@ -5,7 +5,7 @@ ghost use Rattle.dq_base.specs.Limits.{cell_room};
 ghost use Rattle.dq_base.specs.Versions.{cells_of};
 
 use crate::{Extract, LoadFault, Segment, SegmentList, load};
-use dq_base::{Duplicate, List, Schema, Sort, Sorts, Text, Texts, Value, Values};
+use dq_base::{Duplicate, List, MOST_CELLS, Schema, Sort, Sorts, Text, Texts, Value, Values};
 use std::alloc::Global;
 use std::process::Abort;
 use std::sync::Arc;
@@ -49,7 +49,9 @@ fn three_sorts(rt: &impl Abort, alloc: Global) -> Sorts
 fn three_columns(rt: &impl Abort, alloc: Global) -> Schema
     ensures { 0 < length result.names }
 {
-    Schema::new(three_names(rt, alloc), three_sorts(rt, alloc))
+    Schema::new(alloc, three_names(rt, alloc), three_sorts(rt, alloc))
+        .ok()
+        .expect(rt, "memory")
 }
 
 fn spell_value(rt: &impl Abort, alloc: Global, line: &mut Text, value: &Value) {
@@ -82,7 +84,7 @@ fn spell_rows(rt: &impl Abort, alloc: Global, rows: &[Values]) -> Text {
 
 // The segment of a file, with room for so many cells.
 fn load_file(rt: &impl Abort, alloc: Global, room: u64, file: &[u8]) -> Segment
-    requires { room ≤ 8388608 }
+    requires { room ≤ cell_room }
     ensures { cells_of result ≤ room }
 {
     let schema = three_columns(rt, alloc);
@@ -90,7 +92,7 @@ fn load_file(rt: &impl Abort, alloc: Global, room: u64, file: &[u8]) -> Segment
 }
 
 fn spell_file(rt: &impl Abort, alloc: Global, file: &[u8]) -> Text {
-    let segment = load_file(rt, alloc, 8388608, file);
+    let segment = load_file(rt, alloc, MOST_CELLS, file);
     spell_rows(rt, alloc, segment.rows())
 }
 
@@ -100,13 +102,18 @@ fn check_rows(rt: &impl Abort, alloc: Global, file: &str, want: &str) {
     assert_eq!(rt; line.bytes(), want.as_bytes(), "{file}");
 }
 
-/// A file has a fault, with room for so many cells.
-fn check_fault(rt: &impl Abort, alloc: Global, room: u64, file: &[u8])
-    requires { room ≤ 8388608 }
-{
+/// A file's first fault is this, with room for so many cells.
+fn check_fault(rt: &impl Abort, alloc: Global, room: u64, file: &[u8], want: LoadFault) {
+    assert!(rt; room <= MOST_CELLS);
     let schema = three_columns(rt, alloc);
-    let loaded = load(alloc, &schema, room, file);
-    assert!(rt; matches!(loaded, Err(LoadFault::Unbuilt)));
+    let fault = load(alloc, &schema, room, file).err();
+    assert_eq!(rt; fault.expect(rt, "no fault"), want);
+}
+
+/// A fault is shown so.
+fn check_shown(rt: &impl Abort, alloc: Global, fault: LoadFault, want: &str) {
+    let shown = format!(in alloc; "{fault}").ok().expect(rt, "memory");
+    assert_eq!(rt; shown.as_str(), want);
 }
 
 const FIVE: &str = "East|2020|10|;East|2021|5|;West|2020|7|;West|2021|-|;-|2021|4|;";
@@ -158,28 +165,72 @@ fn line_ends_are_read(rt: HostRuntime) {
 }
 
 #[test]
-fn faults_of_records(rt: HostRuntime) {
+fn faults_are_told(rt: HostRuntime) {
     let alloc = rt.alloc();
-    check_fault(&rt, alloc, 8388608, b"");
-    check_fault(&rt, alloc, 8388608, b"region,year,sum\nEast,2020,10\n");
-    check_fault(&rt, alloc, 8388608, b"region,year\nEast,2020\n");
-    check_fault(&rt, alloc, 8388608, b"region,year,amount\nEast,2021\n");
-    check_fault(&rt, alloc, 2, b"region,year,amount\nEast,2020,10\n");
+    let faults: [(u64, &[u8], LoadFault); 12] = [
+        (MOST_CELLS, b"", LoadFault::Header),
+        (
+            MOST_CELLS,
+            b"region,year,sum\nEast,2020,10\n",
+            LoadFault::Header,
+        ),
+        (MOST_CELLS, b"region,year\nEast,2020\n", LoadFault::Header),
+        (
+            2,
+            b"region,year,amount\nEast,2020,10\n",
+            LoadFault::TooManyCells,
+        ),
+        (
+            5,
+            b"region,year,amount\nEast,2020,10\nWest,2020,x\n",
+            LoadFault::TooManyCells,
+        ),
+        (2, b"region,year,amount\nEast,2020\n", LoadFault::Width(1)),
+        (
+            MOST_CELLS,
+            b"region,year,amount\nEast,2020,10\nWest,2021,7\nEast,2020\n",
+            LoadFault::Width(3),
+        ),
+        (
+            MOST_CELLS,
+            b"region,year,amount\nEast,9223372036854775808,1\n",
+            LoadFault::Number(1, 2),
+        ),
+        (
+            MOST_CELLS,
+            b"region,year,amount\nEast,2020,10\nWest,2020,12x\nWest\n",
+            LoadFault::Number(2, 3),
+        ),
+        (
+            MOST_CELLS,
+            b"region,year,amount\nEast,+5,12x\n",
+            LoadFault::Number(1, 2),
+        ),
+        (
+            MOST_CELLS,
+            b"region,year,amount\n\xFF,-,5\n",
+            LoadFault::NotText(1, 1),
+        ),
+        (
+            MOST_CELLS,
+            b"region,year,amount\nEast,2020,10\n\xFF,2020,5\n",
+            LoadFault::NotText(2, 1),
+        ),
+    ];
+    for (room, file, want) in faults {
+        check_fault(&rt, alloc, room, file, want);
+    }
 }
 
 #[test]
-fn faults_of_fields(rt: HostRuntime) {
+fn faults_are_shown(rt: HostRuntime) {
     let alloc = rt.alloc();
-    check_fault(&rt, alloc, 8388608, b"region,year,amount\nEast,2020,12x\n");
-    check_fault(
-        &rt,
-        alloc,
-        8388608,
-        b"region,year,amount\nEast,2020,9223372036854775808\n",
-    );
-    check_fault(&rt, alloc, 8388608, b"region,year,amount\nEast,2020,+5\n");
-    check_fault(&rt, alloc, 8388608, b"region,year,amount\nEast,-,5\n");
-    check_fault(&rt, alloc, 8388608, b"region,year,amount\n\xFF,2020,5\n");
+    check_shown(&rt, alloc, LoadFault::Header, "header");
+    check_shown(&rt, alloc, LoadFault::Width(3), "width 3");
+    check_shown(&rt, alloc, LoadFault::Number(2, 3), "number 2 3");
+    check_shown(&rt, alloc, LoadFault::NotText(4, 1), "not text 4 1");
+    check_shown(&rt, alloc, LoadFault::TooManyCells, "too many cells");
+    check_shown(&rt, alloc, LoadFault::Memory, "out of memory");
 }
 
 fn spell_copy(rt: &impl Abort, alloc: Global, segment: &Segment, place: u64) -> Text
@@ -245,7 +296,6 @@ fn replaced_by(rt: &impl Abort, alloc: Global, owner: &Arc<Segment>) -> Extract
 fn check_appended(rt: &impl Abort, alloc: Global, extract: &Extract, owner: &Arc<Segment>)
     requires heading { (arc_value owner.now).heading ≡ extract.now.heading }
     requires cells { cells_of extract.now + cells_of (arc_value owner.now) ≤ cell_room }
-    requires rows { length extract.now.rows + length (arc_value owner.now).rows ≤ cell_room }
 {
     let appended = extract.appended(alloc, owner).ok().expect(rt, "memory");
     check_segments(rt, &appended, 2);

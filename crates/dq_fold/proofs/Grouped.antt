@@ -9,6 +9,7 @@ use Rattle.std.proofs.lemmas.Cmp.{lists_total, eq_by_cmp_equiv}
 use Rattle.std.proofs.lemmas.List.{append-nil, map_push}
 use Rattle.std.proofs.lemmas.List.Elements.{filter-append}
 use Rattle.dq_base.specs.Answers.{answer, cell_of, first_rows, group_row, key_of, keys, keys_of, plain, row_cmp, rows_with}
+use Rattle.dq_base.specs.Dims.{Dimension}
 use Rattle.dq_base.specs.Filters.{keeps, kept}
 use Rattle.dq_base.specs.Orders.{key_cmp}
 use Rattle.dq_base.specs.Sets.{ascending, has, set_of, with}
@@ -51,11 +52,11 @@ any_map : {X Y : Type 0} (p : Y → Bool) (h : X → Y) (xs : List X) → list_a
 any_map p h [] = refl
 any_map p h (x ∷ xs) = ap (λ b. p (h x) || b) (any_map p h xs)
 
-pub ascends_keys : (dims : List ℕ) (rows : List (List Value)) → Ascends key_cmp (keys_of dims rows)
+pub ascends_keys : (dims : List Dimension) (rows : List (List Value)) → Ascends key_cmp (keys_of dims rows)
 ascends_keys [] rows = (tt, tt)
 ascends_keys (d ∷ dims) rows = ascends_set_of key_cmp keys_total (map (key_of (d ∷ dims)) rows)
 
-keys_push : (dims : List ℕ) (rows : List (List Value)) (row : List Value) → keys_of dims (rows ++ row ∷ []) ≡ with key_cmp (key_of dims row) (keys_of dims rows)
+keys_push : (dims : List Dimension) (rows : List (List Value)) (row : List Value) → keys_of dims (rows ++ row ∷ []) ≡ with key_cmp (key_of dims row) (keys_of dims rows)
 keys_push [] rows row = refl
 keys_push (d ∷ dims) rows row =
     ap (set_of key_cmp) (map_push (key_of (d ∷ dims)) rows row) ∙ fold_push (λ set x. with key_cmp x set) [] (map (key_of (d ∷ dims)) rows) (key_of (d ∷ dims) row)
@@ -66,7 +67,7 @@ never false [] e = refl
 never false (x ∷ xs) e = never false xs e
 
 -- a key that no row has
-pub no_rows : (dims : List ℕ) (rows : List (List Value)) (key : List Value) → has key_cmp (keys_of dims rows) key ≡ false → rows_with dims key rows ≡ []
+pub no_rows : (dims : List Dimension) (rows : List (List Value)) (key : List Value) → has key_cmp (keys_of dims rows) key ≡ false → rows_with dims key rows ≡ []
 no_rows [] rows key e = filter_none (λ r. is_eq (key_cmp key (key_of [] r))) rows (never (is_eq (key_cmp key [])) rows e)
 no_rows (d ∷ dims) rows key e =
     let p : List Value → Bool = λ x. is_eq (key_cmp key x) in
@@ -165,7 +166,7 @@ cells_by q rows (k ∷ ks) =
 pub cells_of_groups : (q : Query) (rows : List (List Value)) → map group_cells (groups_of q rows) ≡ plain q rows
 cells_of_groups q rows = cells_by q (kept q rows) (keys q rows)
 
-no_groups_by : (ds : List ℕ) (q : Query) → q.dims ≡ ds → (length ds ≡ 0 → ⊥) → groups_of q [] ≡ []
+no_groups_by : (ds : List Dimension) (q : Query) → q.dims ≡ ds → (length ds ≡ 0 → ⊥) → groups_of q [] ≡ []
 no_groups_by [] q e h = absurd (h refl)
 no_groups_by (d ∷ ds) q e h = ap (λ dims. entries_by (tallies_of q []) (keys_of dims [])) e
 
@@ -173,7 +174,7 @@ no_groups_by (d ∷ ds) q e h = ap (λ dims. entries_by (tallies_of q []) (keys_
 pub no_groups : (q : Query) → (length q.dims ≡ 0 → ⊥) → groups_of q [] ≡ []
 no_groups q h = no_groups_by q.dims q refl h
 
-one_group_by : (ds : List ℕ) (q : Query) → q.dims ≡ ds → length ds ≡ 0 → groups_of q [] ≡ ([], map (tally_of []) q.measures) ∷ []
+one_group_by : (ds : List Dimension) (q : Query) → q.dims ≡ ds → length ds ≡ 0 → groups_of q [] ≡ ([], map (tally_of []) q.measures) ∷ []
 one_group_by [] q e h = ap (λ dims. entries_by (tallies_of q []) (keys_of dims [])) e
 one_group_by (d ∷ ds) q e h = absurd (omega arith)
 

@@ -10,6 +10,7 @@ use Rattle.std.proofs.lemmas.Cmp.{eq_by_cmp_equiv, tied_itself}
 use Rattle.std.proofs.lemmas.List.{append-nil, map-append}
 use Rattle.std.proofs.lemmas.List.Elements.{filter-append}
 use Rattle.dq_base.specs.Answers.{key_of, keys_of, rows_with}
+use Rattle.dq_base.specs.Dims.{Dimension}
 use Rattle.dq_base.specs.Filters.{keeps, kept}
 use Rattle.dq_base.specs.Orders.{key_cmp}
 use Rattle.dq_base.specs.Sets.{has, put_by, set_of, with}
@@ -123,13 +124,13 @@ module _ (g h : List Value → List Tally) where
             (all_mergeable os (with key_cmp k ks) (changed_at f h k) ao.1 (ascends_with key_cmp keys_total k ks ak) (each_later f ks k os ao.0 c.1)),
       )
 
-keys_append : (dims : List ℕ) (rows more : List (List Value)) → with_each key_cmp (keys_of dims rows) (keys_of dims more) ≡ keys_of dims (rows ++ more)
+keys_append : (dims : List Dimension) (rows more : List (List Value)) → with_each key_cmp (keys_of dims rows) (keys_of dims more) ≡ keys_of dims (rows ++ more)
 keys_append [] rows more = refl
 keys_append (d ∷ dims) rows more =
     sym (set_of_append key_cmp keys_total exact_keys (map (key_of (d ∷ dims)) rows) (map (key_of (d ∷ dims)) more))
     ∙ ap (set_of key_cmp) (sym (map-append (key_of (d ∷ dims)) rows more))
 
-with_append : (dims : List ℕ) (key : List Value) (rows more : List (List Value)) → rows_with dims key (rows ++ more) ≡ rows_with dims key rows ++ rows_with dims key more
+with_append : (dims : List Dimension) (key : List Value) (rows more : List (List Value)) → rows_with dims key (rows ++ more) ≡ rows_with dims key rows ++ rows_with dims key more
 with_append dims key rows more = filter-append (λ row. is_eq (key_cmp key (key_of dims row))) rows more
 
 mergeable_tallies : (rows more : List (List Value)) (ms : List Measure) → length rows + length more ≤ 2 ^ 23 → Mergeable (map (tally_of rows) ms) (map (tally_of more) ms)

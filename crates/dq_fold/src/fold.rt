@@ -11,35 +11,35 @@ use dq_base::{Canon, List, Memory, Query, Table, Value, Values};
 use std::alloc::Global;
 use std::marker::Model;
 
-/// The groups of the rows that were added, for one query. Contracts see it as the query, the groups by key, how many rows
-/// were added, and whether an addition failed: then it is spent.
+/// The groups of the rows that were added, for one query, which it borrows. Contracts see it as the query, the groups by
+/// key, how many rows were added, and whether an addition failed: then it is spent.
 #[derive(Drop)]
-pub struct Fold {
+pub struct Fold<'a> {
     alloc: Global,
-    key: Canon,
+    key: &'a Canon,
     buffer: Values,
     groups: Groups,
     rows: u64,
+    // No code reads it: it is there for the invariant, which says nothing of a fold that is spent.
     spent: bool,
 }
 
-impl Model for Fold {
+impl<'a> Model for Fold<'a> {
     ghost use Rattle.dq_fold.specs.Folding.{Folded, IsFolding};
 
     ghost Value = { Folded };
 
-    ghost view = { λ f. record { key = f.key; groups = f.groups; rows = f.rows; spent = f.spent } };
+    ghost view = { λ f. record { key = f.key.now; groups = f.groups; rows = f.rows; spent = f.spent } };
 
-    ghost invariant = { λ f. IsFolding (record { key = f.key; groups = f.groups; rows = f.rows; spent = f.spent }) };
+    ghost invariant = { λ f. IsFolding (record { key = f.key.now; groups = f.groups; rows = f.rows; spent = f.spent }) };
 }
 
-impl Fold {
+impl<'a> Fold<'a> {
     /// The fold of no rows. Without dimensions it has one group from the start, and else none.
-    pub fn new(alloc: Global, key: &Canon) -> Result<Fold, Memory>
+    pub fn new(alloc: Global, key: &'a Canon) -> Result<Fold<'a>, Memory>
         ensures { IfOk result (λ fold. fold ≡ folded key.now []) }
     {
         let groups = first_groups(alloc, key.query())?;
-        let key = key.duplicate(alloc)?;
         Ok(Fold {
             alloc,
             key,
@@ -63,9 +63,10 @@ impl Fold {
     {
         self.spent = true;
         self.rows += 1;
+        let key = self.key;
         add_to_groups(
             self.alloc,
-            self.key.query(),
+            key.query(),
             &mut self.buffer,
             &mut self.groups,
             values,
@@ -80,12 +81,12 @@ impl Fold {
     /// Each group of the other costs a look-up among the groups. One that this fold lacks is moved over; else there is an
     /// addition for each measure, and for each of its different values where they are counted. Of a known group only a new
     /// bound or a new different value takes memory.
-    pub fn merge(&mut self, other: Fold) -> Result<(), Memory>
+    pub fn merge(&mut self, other: Fold<'a>) -> Result<(), Memory>
         requires fresh { self.old.spent ≡ false }
         requires other { other.spent ≡ false }
         requires same { other.key ≡ self.old.key }
         requires room { self.old.rows + other.rows ≤ 2 ^ 23 }
-        ensures ok { OnOk result ((rows more : ListOf (ListOf ValueOf)) → self.old ≡ folded self.old.key rows → other ≡ folded self.old.key more → self.new ≡ folded self.old.key (rows ++ more)) }
+        ensures ok { OnOk result ((rows more : ListOf (ListOf ValueOf)) → self.old ≡ folded self.old.key rows → other.entry ≡ folded self.old.key more → self.new ≡ folded self.old.key (rows ++ more)) }
         ensures err { OnErr result (self.new.spent ≡ true) }
     {
         self.spent = true;
@@ -98,9 +99,10 @@ impl Fold {
     /// The answer over the rows that were added. It costs a sort of the groups' rows.
     pub fn finish(self) -> Result<Table, Memory>
         requires { self.spent ≡ false }
-        ensures { IfOk result (λ table. (rows : ListOf (ListOf ValueOf)) → self ≡ folded self.key rows → table ≡ answer self.key rows) }
+        ensures { IfOk result (λ table. (rows : ListOf (ListOf ValueOf)) → self.entry ≡ folded self.entry.key rows → table ≡ answer self.entry.key rows) }
     {
-        let q = self.key.query();
+        let key = self.key;
+        let q = key.query();
         let mut rows = rows_of(self.alloc, &self.groups)?;
         sort_rows(q, &mut rows)?;
         Ok(first_of(List::from_vec(rows), q.top))
@@ -141,12 +143,12 @@ fn add_to_groups(
 }
 
 /// The first rows, or all without a top.
-pub fn first_of(table: Table, top: Option<u32>) -> Table
+fn first_of(table: Table, top: Option<u32>) -> Table
     ensures { result ≡ first_rows top table }
 {
     let mut first = table;
     if let Some(count) = top {
-        first.truncate(count as usize);
+        first.truncate(u64::from(count));
     }
     first
 }

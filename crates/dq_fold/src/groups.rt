@@ -1,9 +1,9 @@
-ghost use Rattle.std.specs.Prelude.{◌≡◌, ◌+◌, ◌^◌, ◌<◌, ◌≤◌, ◌++◌, ◌∷◌, [], List as ListOf, Some, None, IfOk, OnOk, length, map, slice_get, take};
+ghost use Rattle.std.specs.Prelude.{if◌then◌else◌, ◌≡◌, ◌+◌, ◌^◌, ◌<◌, ◌≤◌, ◌++◌, ◌∷◌, [], List as ListOf, Some, None, IfOk, OnOk, length, map, slice_get, take};
 ghost use Rattle.std.specs.BTreeMap.{insert_entry, is_at};
 ghost use Rattle.std.specs.List.{All};
 ghost use Rattle.std.specs.Map.{lookup, set_value};
-ghost use Rattle.dq_base.specs.Answers.{cell_of, key_of};
-ghost use Rattle.dq_base.specs.Filters.{value_at};
+ghost use Rattle.dq_base.specs.Answers.{cell_of, key_of, value_in};
+ghost use Rattle.dq_base.specs.Dims.{banded, is_plain, width_of};
 ghost use Rattle.dq_base.specs.Orders.{key_cmp};
 ghost use Rattle.dq_base.specs.declared.value.Value.TheVariants.{Word};
 ghost use Rattle.dq_fold.specs.Folding.{AllSmall, AreMergeable, IsMergeable, group_cells, merged_groups, merged_in};
@@ -14,7 +14,7 @@ ghost use Rattle.dq_fold.specs.declared.tally.Tally.{Tally as TallyOf};
 
 use crate::slots::{Hints, Places, Slot, Tallies, hint, place_of, widen};
 use crate::tally::{Tally, cell_from};
-use dq_base::{Cells, Duplicate, List, Measure, Memory, Text, Value, Values};
+use dq_base::{Cells, Dim, Duplicate, List, Measure, Memory, Text, Value, Values};
 use std::alloc::Global;
 use std::collections::BTreeMap;
 use std::marker::Model;
@@ -53,7 +53,7 @@ impl Groups {
         }
     }
 
-    /// Puts a group in, whose key isn't there.
+    /// Puts a group in, whose key isn't there. The key is copied once, for the map of places.
     pub fn insert(&mut self, alloc: Global, key: Values, tallies: Tallies) -> Result<(), Memory>
         requires { lookup (is_at (key_cmp key)) self.old ≡ None }
         ensures { OnOk result (self.new ≡ insert_entry key_cmp self.old key tallies) }
@@ -64,7 +64,7 @@ impl Groups {
         let copy = key.duplicate(alloc)?;
         self.slots.push(Slot { key: copy, tallies })?;
         if self.places.insert(key, place).is_err() {
-            self.slots.truncate(place as usize);
+            self.slots.truncate(place);
             return Err(Memory);
         }
         Ok(())
@@ -86,7 +86,7 @@ fn overwrite_with_text(alloc: Global, slot: &mut Value, text: &Text) -> Result<(
     if let Value::Word(old) = slot {
         return refill(old, text);
     }
-    *slot = Value::Word(text.duplicate(alloc)?);
+    *slot = Value::Word(Text::copy_of(alloc, text.bytes())?);
     Ok(())
 }
 
@@ -113,38 +113,59 @@ fn put_at(alloc: Global, buffer: &mut Values, place: usize, v: &Value) -> Result
     ensures { OnOk result (take (place + 1) buffer.new ≡ take place buffer.old ++ v.now ∷ []) }
 {
     if place < buffer.as_slice().len() {
-        overwrite(alloc, buffer.item_mut(place), v)?;
+        overwrite(alloc, buffer.item_mut(place as u64), v)?;
         return Ok(());
     }
     buffer.push(v.duplicate(alloc)?)?;
     Ok(())
 }
 
-/// Puts the row's value in a column at a place, null where the row has none.
-fn put_column(
+/// Puts a value at a place, or in bands the number of its band.
+fn put_banded(
+    alloc: Global,
+    buffer: &mut Values,
+    place: usize,
+    dim: &Dim,
+    v: &Value,
+) -> Result<(), Memory>
+    requires { place ≤ length buffer.old }
+    ensures { OnOk result (take (place + 1) buffer.new ≡ take place buffer.old ++ (if is_plain dim.now then v.now else banded (width_of dim.now) v.now) ∷ []) }
+{
+    if dim.width() == 1 {
+        return put_at(alloc, buffer, place, v);
+    }
+    match v {
+        Value::Null => put_at(alloc, buffer, place, v),
+        Value::Int(n) => put_at(alloc, buffer, place, &Value::Int(dim.band(*n))),
+        Value::Word(_) => put_at(alloc, buffer, place, v),
+    }
+}
+
+/// Puts a dimension's value in a row at a place. A column that the row lacks reads as null.
+fn put_dim(
     alloc: Global,
     buffer: &mut Values,
     place: usize,
     row: &[Value],
-    column: u32,
+    dim: &Dim,
 ) -> Result<(), Memory>
     requires { place ≤ length buffer.old }
-    ensures { OnOk result (take (place + 1) buffer.new ≡ take place buffer.old ++ value_at row.now column ∷ []) }
+    ensures { OnOk result (take (place + 1) buffer.new ≡ take place buffer.old ++ value_in row.now dim.now ∷ []) }
 {
-    match row.get(column as usize) {
-        Some(v) => put_at(alloc, buffer, place, v),
-        None => put_at(alloc, buffer, place, &Value::Null),
+    match row.get(dim.column() as usize) {
+        Some(v) => put_banded(alloc, buffer, place, dim, v),
+        None => put_banded(alloc, buffer, place, dim, &Value::Null),
     }
 }
 
 /// Makes a buffer the row's key, in the memory that it has.
-pub fn fill(alloc: Global, buffer: &mut Values, dims: &[u32], row: &[Value]) -> Result<(), Memory>
+pub fn fill(alloc: Global, buffer: &mut Values, dims: &[Dim], row: &[Value]) -> Result<(), Memory>
     ensures { OnOk result (buffer.new ≡ key_of dims.now row.now) }
 {
-    for (place, column) in dims.iter().enumerate() {
-        put_column(alloc, buffer, place, row, *column)?;
+    for (place, dim) in dims.iter().enumerate() {
+        put_dim(alloc, buffer, place, row, dim)?;
     }
-    buffer.truncate(dims.len());
+    buffer.truncate(dims.len() as u64);
     Ok(())
 }
 
@@ -164,7 +185,7 @@ fn add_to(alloc: Global, tallies: &mut Tallies, row: &[Value]) -> Result<(), Mem
     requires { All (λ t. count_in t < 2 ^ 23) tallies.old }
     ensures { OnOk result (tallies.new ≡ map (added row.now) tallies.old) }
 {
-    for place in 0..tallies.as_slice().len() {
+    for place in 0..tallies.len() {
         tallies.item_mut(place).add(alloc, row)?;
     }
     Ok(())
@@ -174,17 +195,16 @@ fn add_to(alloc: Global, tallies: &mut Tallies, row: &[Value]) -> Result<(), Mem
 fn add_group(
     alloc: Global,
     groups: &mut Groups,
-    key: &Values,
+    key: Values,
     measures: &[Measure],
     row: &[Value],
 ) -> Result<(), Memory>
-    requires { lookup (is_at (key_cmp key.now)) groups.old ≡ None }
-    ensures { OnOk result (groups.new ≡ insert_entry key_cmp groups.old key.now (map (added row.now) (map (tally_of []) measures.now))) }
+    requires { lookup (is_at (key_cmp key)) groups.old ≡ None }
+    ensures { OnOk result (groups.new ≡ insert_entry key_cmp groups.old key (map (added row.now) (map (tally_of []) measures.now))) }
 {
     let mut tallies = no_tallies(alloc, measures)?;
     add_to(alloc, &mut tallies, row)?;
-    groups.insert(alloc, key.duplicate(alloc)?, tallies)?;
-    Ok(())
+    groups.insert(alloc, key, tallies)
 }
 
 /// Adds a row to the tallies of the slot at a place.
@@ -193,20 +213,20 @@ fn add_at(alloc: Global, slots: &mut List<Slot>, place: u64, row: &[Value]) -> R
     requires few { (s : SlotOf) → slice_get slots.old place ≡ Some s → All (λ t. count_in t < 2 ^ 23) s.tallies }
     ensures { SetsTallies slots.old slots.new place (λ ts us. OnOk result (us ≡ map (added row.now) ts)) }
 {
-    add_to(alloc, &mut slots.item_mut(place as usize).tallies, row)
+    add_to(alloc, &mut slots.item_mut(place).tallies, row)
 }
 
-/// Adds a row to the group of its key. Only a new group takes memory, but for what its tallies take.
+/// Adds a row to the group of its key. Only a new group takes memory, but for what its tallies take: it takes the key over.
 pub fn add_row(
     alloc: Global,
     groups: &mut Groups,
-    key: &Values,
+    key: &mut Values,
     measures: &[Measure],
     row: &[Value],
 ) -> Result<(), Memory>
-    requires { (tallies : ListOf TallyOf) → lookup (is_at (key_cmp key.now)) groups.old ≡ Some tallies → All (λ t. count_in t < 2 ^ 23) tallies }
-    ensures there { OnOk result ((tallies : ListOf TallyOf) → lookup (is_at (key_cmp key.now)) groups.old ≡ Some tallies → groups.new ≡ set_value (is_at (key_cmp key.now)) groups.old (map (added row.now) tallies)) }
-    ensures absent { OnOk result (lookup (is_at (key_cmp key.now)) groups.old ≡ None → groups.new ≡ insert_entry key_cmp groups.old key.now (map (added row.now) (map (tally_of []) measures.now))) }
+    requires { (tallies : ListOf TallyOf) → lookup (is_at (key_cmp key.old)) groups.old ≡ Some tallies → All (λ t. count_in t < 2 ^ 23) tallies }
+    ensures there { OnOk result ((tallies : ListOf TallyOf) → lookup (is_at (key_cmp key.old)) groups.old ≡ Some tallies → groups.new ≡ set_value (is_at (key_cmp key.old)) groups.old (map (added row.now) tallies)) }
+    ensures absent { OnOk result (lookup (is_at (key_cmp key.old)) groups.old ≡ None → groups.new ≡ insert_entry key_cmp groups.old key.old (map (added row.now) (map (tally_of []) measures.now))) }
 {
     match place_of(
         &groups.places,
@@ -215,7 +235,7 @@ pub fn add_row(
         key,
     ) {
         Some(place) => add_at(alloc, &mut groups.slots, place, row),
-        None => add_group(alloc, groups, key, measures, row),
+        None => add_group(alloc, groups, replace(key, List::new(alloc)), measures, row),
     }
 }
 
@@ -225,7 +245,7 @@ fn merge_tallies(alloc: Global, tallies: &mut Tallies, others: &Tallies) -> Resu
     ensures { OnOk result (tallies.new ≡ merged_all tallies.old others.now) }
 {
     for (place, other) in others.as_slice().iter().enumerate() {
-        tallies.item_mut(place).merge(alloc, other)?;
+        tallies.item_mut(place as u64).merge(alloc, other)?;
     }
     Ok(())
 }
@@ -241,7 +261,7 @@ fn merge_at(
     requires fit { (s : SlotOf) → slice_get slots.old place ≡ Some s → Mergeable s.tallies others.now }
     ensures { SetsTallies slots.old slots.new place (λ ts us. OnOk result (us ≡ merged_all ts others.now)) }
 {
-    merge_tallies(alloc, &mut slots.item_mut(place as usize).tallies, others)
+    merge_tallies(alloc, &mut slots.item_mut(place).tallies, others)
 }
 
 /// Merges a group into that of its key, or puts it in where there is none.
@@ -312,10 +332,7 @@ fn take_at(alloc: Global, slots: &mut List<Slot>, place: u64) -> Tallies
     ensures rest { slots.new ≡ emptied slots.old place }
 {
     if place < slots.len() {
-        replace(
-            &mut slots.item_mut(place as usize).tallies,
-            List::new(alloc),
-        )
+        replace(&mut slots.item_mut(place).tallies, List::new(alloc))
     } else {
         List::new(alloc)
     }

@@ -1,12 +1,12 @@
 ghost use Rattle.std.specs.Prelude.{◌≡◌};
 ghost use Rattle.std.specs.Option.{option_copied};
 ghost use Rattle.dq_base.specs.Canonical.{IsCanonical, canonical_test};
-ghost use Rattle.dq_base.specs.Filters.{from_low, holds, keeps, lies_between, to_high, value_at};
+ghost use Rattle.dq_base.specs.Filters.{from_low, holds, keeps, lies_between, passes as filters_pass, to_high, value_at};
 ghost use Rattle.dq_base.specs.Orders.{value_cmp};
 ghost use Rattle.dq_base.specs.Sets.{has, set_of};
 ghost use Rattle.dq_fold.specs.Tallies.{filled};
 
-use dq_base::{Predicate, Query, Test, Value, Values};
+use dq_base::{Predicate, Predicates, Query, Test, Value, Values, compare_values};
 
 /// Whether an ascending list has the like of a value. It costs the logarithm of the list.
 fn has_like(list: &Values, v: &Value) -> bool
@@ -88,4 +88,41 @@ pub fn filled_at(row: &[Value], column: u32) -> Option<&Value>
         Value::Int(_) => Some(v),
         Value::Word(_) => Some(v),
     }
+}
+
+/// Whether a list has the like of a value. It costs the length of the list.
+fn has_value(list: &Values, v: &Value) -> bool
+    ensures { result ≡ has value_cmp list.now v.now }
+{
+    list.as_slice()
+        .iter()
+        .any(|other| compare_values(v, other).is_eq())
+}
+
+/// Whether any test, in canonical form or not, holds of a value.
+fn test_passes(test: &Test, v: &Value) -> bool
+    ensures { result ≡ holds test.now v.now }
+{
+    match test {
+        Test::Among(list) => has_value(list, v),
+        Test::Except(list) => !has_value(list, v),
+        Test::Between(low, high) => is_between(*low, *high, v),
+    }
+}
+
+/// Whether any predicate holds of a row.
+fn predicate_passes(p: &Predicate, row: &[Value]) -> bool
+    ensures { result ≡ holds p.now.test (value_at row.now p.now.column) }
+{
+    match row.get(p.column as usize) {
+        Some(v) => test_passes(&p.test, v),
+        None => test_passes(&p.test, &Value::Null),
+    }
+}
+
+/// Whether a row meets each predicate, in canonical form or not. It takes no memory, and costs the lengths of the lists.
+pub fn passes(filters: &Predicates, row: &[Value]) -> bool
+    ensures { result ≡ filters_pass filters.now row.now }
+{
+    filters.as_slice().iter().all(|p| predicate_passes(p, row))
 }

@@ -23,10 +23,8 @@ mod tally;
 mod total;
 
 pub use answers::answer_of;
-pub use fold::{Fold, first_of};
-pub use keeps::is_kept;
-pub use order::sort_rows;
-pub use tally::cell_from;
+pub use fold::Fold;
+pub use keeps::passes;
 
 #[cfg(test)]
 mod tests;

@@ -1,4 +1,4 @@
-ghost use Rattle.std.specs.Prelude.{◌≡◌, OnOk, slice_index_or, take};
+ghost use Rattle.std.specs.Prelude.{◌≡◌, OnErr, OnOk, slice_index_or, take};
 ghost use Rattle.std.specs.Cmp.Lexicographic.{slice_cmp};
 ghost use Rattle.dq_base.specs.Answers.{by_order, cell_at, directed, row_cmp};
 ghost use Rattle.dq_base.specs.Orders.{cell_cmp};
@@ -95,9 +95,10 @@ fn compare_rows(q: &Query, a: &Cells, b: &Cells) -> Ordering
     }
 }
 
-/// Sorts rows by the order of the answer. The cost is that of a merge sort.
+/// Sorts rows by the order of the answer. The cost is that of a merge sort. An `Err` changes nothing.
 pub fn sort_rows(q: &Query, rows: &mut Vec<Cells>) -> Result<(), Memory>
-    ensures { OnOk result (rows.new.items ≡ ascending (row_cmp q.now) rows.old.items) }
+    ensures ok { OnOk result (rows.new.items ≡ ascending (row_cmp q.now) rows.old.items) }
+    ensures err { OnErr result (rows.new.items ≡ rows.old.items) }
 {
     rows.sort_by(|a, b| compare_rows(q, a, b))?;
     Ok(())

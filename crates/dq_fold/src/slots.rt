@@ -101,7 +101,7 @@ fn put_hint(hints: &mut Hints, digest: u64, place: u64) {
     for way in 0..WAYS {
         let at = row | way;
         if at < hints.len() {
-            moved = replace(hints.item_mut(at as usize), moved);
+            moved = replace(hints.item_mut(at), moved);
         }
     }
 }

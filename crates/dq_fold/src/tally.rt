@@ -7,7 +7,7 @@ ghost use Rattle.dq_fold.specs.Tallies.{added, best_cell, best_in, count_in, cou
 use crate::keeps::filled_at;
 use crate::seen::Seen;
 use crate::total::Total;
-use dq_base::{Cell, Duplicate, Measure, Memory, Value, compare_values};
+use dq_base::{Cell, Duplicate, Measure, Memory, Text, Value, compare_values};
 use std::alloc::Global;
 
 /// What is kept of a group's rows for one measure. Columns are numbered from 0.
@@ -268,7 +268,7 @@ pub fn cell_from(alloc: Global, v: &Value) -> Result<Cell, Memory>
     match v {
         Value::Null => Ok(Cell::Null),
         Value::Int(n) => Ok(Cell::Whole(i128::from(*n))),
-        Value::Word(text) => Ok(Cell::Word(text.duplicate(alloc)?)),
+        Value::Word(text) => Ok(Cell::Word(Text::copy_of(alloc, text.bytes())?)),
     }
 }
 

@@ -4,24 +4,14 @@ ghost use Rattle.dq_base.specs.Orders.{value_cmp};
 ghost use Rattle.dq_base.specs.Sets.{set_of};
 ghost use Rattle.dq_fold.specs.Folding.{folded};
 
-use crate::{Fold, answer_of};
+use crate::{Fold, answer_of, passes};
 use dq_base::{
-    Canon, Cell, Cells, List, Measure, Memory, OrderKey, OrderKeys, Predicate, Predicates, Query,
-    Table, Test, Text, Value, Values, put,
+    Canon, Cell, Cells, Dim, Dims, List, Measure, Memory, OrderKey, OrderKeys, Predicate,
+    Predicates, Query, Table, Test, Text, Value, Values, put,
 };
 use std::alloc::Global;
+use std::process::Abort;
 use std::test::Fail;
-
-/// A cell that is wanted. A ratio has its sum and its count.
-#[derive(Clone, Copy)]
-enum Want<'a> {
-    Null,
-    Whole(i128),
-    Word(&'a str),
-    Over(i128, u64),
-}
-
-use Want::{Null, Over, Whole, Word};
 
 /// The value of a region; an empty one is null.
 fn region_of(alloc: Global, region: &str) -> Result<Value, Memory> {
@@ -69,15 +59,15 @@ enum Keeps<'a> {
 
 use Keeps::{All, Among, Except, Until};
 
-/// A query, without its source.
+/// A query, without its source, and the answer that is wanted. A dimension has a column and a width.
 #[derive(Clone, Copy)]
 struct Case<'a> {
     keeps: Keeps<'a>,
-    dims: &'a [u32],
+    dims: &'a [(u32, u32)],
     measures: &'a [Measure],
     down: Option<u32>,
     top: Option<u32>,
-    want: &'a [&'a [Want<'a>]],
+    want: &'a str,
 }
 
 /// The regions ascending.
@@ -129,52 +119,66 @@ fn order(alloc: Global, down: Option<u32>) -> Result<OrderKeys, Memory> {
     Ok(order)
 }
 
+fn dims(alloc: Global, items: &[(u32, u32)]) -> Result<Dims, Memory> {
+    let mut dims = List::new(alloc);
+    for (column, width) in items {
+        if let Some(dim) = Dim::new(*column, *width) {
+            dims.push(dim)?;
+        }
+    }
+    Ok(dims)
+}
+
 fn asked(alloc: Global, case: &Case<'_>) -> Result<Canon, Memory> {
     Ok(Canon::new(Query {
         source: 0,
         filters: filters(alloc, case.keeps)?,
-        dims: List::from_vec(case.dims.to_vec(alloc)?),
+        dims: dims(alloc, case.dims)?,
         measures: List::from_vec(case.measures.to_vec(alloc)?),
         order: order(alloc, case.down)?,
         top: case.top,
     }))
 }
 
-fn is_cell(cell: &Cell, want: Want<'_>) -> bool {
-    match (cell, want) {
-        (Cell::Null, Null) => true,
-        (Cell::Whole(n), Whole(m)) => *n == m,
-        (Cell::Word(text), Word(word)) => text.bytes() == word.as_bytes(),
-        (Cell::Ratio(ratio), Over(sum, count)) => ratio.sum() == sum && ratio.count() == count,
-        _ => false,
+fn spell_cell(alloc: Global, line: &mut Text, cell: &Cell) -> Result<(), Memory> {
+    match cell {
+        Cell::Null => line.append(b"-"),
+        Cell::Whole(number) => {
+            let digits = format!(in alloc; "{number}")?;
+            line.append(digits.as_bytes())
+        }
+        Cell::Word(text) => line.append(text.bytes()),
+        Cell::Ratio(ratio) => {
+            let quotient = format!(in alloc; "{}/{}", ratio.sum(), ratio.count())?;
+            line.append(quotient.as_bytes())
+        }
     }
 }
 
-fn is_row(cells: &Cells, want: &[Want<'_>]) -> bool {
-    let mut same = cells.as_slice().len() == want.len();
-    for (cell, one) in cells.as_slice().iter().zip(want) {
-        same = same && is_cell(cell, *one);
+fn spell_row(alloc: Global, line: &mut Text, row: &Cells) -> Result<(), Memory> {
+    for cell in row.as_slice() {
+        spell_cell(alloc, line, cell)?;
+        line.append(b"|")?;
     }
-    same
+    line.append(b";")
 }
 
-fn is_table(table: &Table, want: &[&[Want<'_>]]) -> bool {
-    let mut same = table.as_slice().len() == want.len();
-    for (cells, one) in table.as_slice().iter().zip(want) {
-        same = same && is_row(cells, one);
+fn spelled(alloc: Global, table: &Table) -> Result<Text, Memory> {
+    let mut line = Text::new(alloc);
+    for row in table.as_slice() {
+        spell_row(alloc, &mut line, row)?;
     }
-    same
+    Ok(line)
 }
 
-fn is_told(alloc: Global, rows: &[Values], case: &Case<'_>) -> Result<bool, Memory>
+fn told(alloc: Global, rows: &[Values], case: &Case<'_>) -> Result<Text, Memory>
     requires { length rows.now ≤ 2 ^ 23 }
 {
     let key = asked(alloc, case)?;
-    let table = answer_of(alloc, &key, rows)?;
-    Ok(is_table(&table, case.want))
+    spelled(alloc, &answer_of(alloc, &key, rows)?)
 }
 
-fn fold_over(alloc: Global, key: &Canon, rows: &[Values]) -> Result<Fold, Memory>
+fn fold_over<'a>(alloc: Global, key: &'a Canon, rows: &[Values]) -> Result<Fold<'a>, Memory>
     requires { length rows.now ≤ 2 ^ 23 }
     ensures { IfOk result (λ fold. fold ≡ folded key.now rows.now) }
 {
@@ -185,137 +189,133 @@ fn fold_over(alloc: Global, key: &Canon, rows: &[Values]) -> Result<Fold, Memory
     Ok(fold)
 }
 
-fn is_merged(
+fn told_merged(
     alloc: Global,
     rows: &[Values],
     more: &[Values],
     case: &Case<'_>,
-) -> Result<bool, Memory>
+) -> Result<Text, Memory>
     requires { length rows.now + length more.now ≤ 2 ^ 23 }
 {
     let key = asked(alloc, case)?;
     let mut fold = fold_over(alloc, &key, rows)?;
     let other = fold_over(alloc, &key, more)?;
     fold.merge(other)?;
-    let table = fold.finish()?;
-    Ok(is_table(&table, case.want))
+    spelled(alloc, &fold.finish()?)
 }
 
-#[test]
-fn answers_over_sales(rt: HostRuntime) -> Result<(), Fail> {
-    let alloc = rt.alloc();
+/// Checks the answers over the sales.
+fn check_sales(rt: &impl Abort, alloc: Global, cases: &[Case<'_>]) -> Result<(), Memory> {
     let rows = sales(alloc)?;
     let rows = rows.as_slice();
     assert!(rt; rows.len() == 5);
+    for case in cases {
+        let line = told(alloc, rows, case)?;
+        assert_eq!(rt; line.bytes(), case.want.as_bytes(), "{}", case.want);
+    }
+    Ok(())
+}
+
+const BY_REGION: Case<'static> = Case {
+    keeps: All,
+    dims: &[(0, 1)],
+    measures: &[Measure::Sum(2), Measure::Rows],
+    down: None,
+    top: None,
+    want: "-|4|1|;East|15|2|;West|7|2|;",
+};
+
+#[test]
+fn groups_over_sales(rt: HostRuntime) -> Result<(), Fail> {
+    let distinct = [
+        Measure::Distinct(1),
+        Measure::Distinct(2),
+        Measure::Count(2),
+    ];
     let cases = [
+        BY_REGION,
         Case {
-            keeps: All,
-            dims: &[0],
-            measures: &[Measure::Sum(2), Measure::Rows],
-            down: None,
-            top: None,
-            want: &[
-                &[Null, Whole(4), Whole(1)],
-                &[Word("East"), Whole(15), Whole(2)],
-                &[Word("West"), Whole(7), Whole(2)],
-            ],
+            measures: &distinct,
+            want: "-|1|1|1|;East|2|2|2|;West|2|1|1|;",
+            ..BY_REGION
         },
         Case {
-            keeps: All,
-            dims: &[0],
-            measures: &[
-                Measure::Distinct(1),
-                Measure::Distinct(2),
-                Measure::Count(2),
-            ],
-            down: None,
-            top: None,
-            want: &[
-                &[Null, Whole(1), Whole(1), Whole(1)],
-                &[Word("East"), Whole(2), Whole(2), Whole(2)],
-                &[Word("West"), Whole(2), Whole(1), Whole(1)],
-            ],
-        },
-        Case {
-            keeps: All,
-            dims: &[0, 1],
+            dims: &[(0, 1), (1, 1)],
             measures: &[Measure::Avg(2)],
-            down: None,
-            top: None,
-            want: &[
-                &[Null, Whole(2021), Over(4, 1)],
-                &[Word("East"), Whole(2020), Over(10, 1)],
-                &[Word("East"), Whole(2021), Over(5, 1)],
-                &[Word("West"), Whole(2020), Over(7, 1)],
-                &[Word("West"), Whole(2021), Null],
-            ],
+            want: "-|2021|4/1|;East|2020|10/1|;East|2021|5/1|;West|2020|7/1|;West|2021|-|;",
+            ..BY_REGION
         },
         Case {
-            keeps: All,
-            dims: &[0],
             measures: &[Measure::Rows],
             down: Some(2),
             top: Some(1),
-            want: &[&[Word("East"), Whole(2)]],
+            want: "East|2|;",
+            ..BY_REGION
         },
         Case {
-            keeps: All,
-            dims: &[0],
             measures: &[Measure::Max(1)],
             down: Some(2),
             top: Some(1),
-            want: &[&[Null, Whole(2021)]],
+            want: "-|2021|;",
+            ..BY_REGION
         },
         Case {
-            keeps: All,
             dims: &[],
             measures: &[Measure::Min(2), Measure::Min(0), Measure::Max(0)],
-            down: None,
-            top: None,
-            want: &[&[Whole(4), Word("East"), Word("West")]],
+            want: "4|East|West|;",
+            ..BY_REGION
         },
+    ];
+    check_sales(&rt, rt.alloc(), &cases)?;
+    Ok(())
+}
+
+#[test]
+fn filters_over_sales(rt: HostRuntime) -> Result<(), Fail> {
+    let cases = [
         Case {
             keeps: Until(2020),
-            dims: &[0],
             measures: &[Measure::Rows, Measure::Min(2)],
-            down: None,
-            top: None,
-            want: &[
-                &[Word("East"), Whole(1), Whole(10)],
-                &[Word("West"), Whole(1), Whole(7)],
-            ],
+            want: "East|1|10|;West|1|7|;",
+            ..BY_REGION
         },
         Case {
             keeps: Until(1999),
             dims: &[],
             measures: &[Measure::Rows, Measure::Sum(2), Measure::Min(2)],
-            down: None,
-            top: None,
-            want: &[&[Whole(0), Null, Null]],
+            want: "0|-|-|;",
+            ..BY_REGION
         },
         Case {
             keeps: Among(&["North", "West", "East", "South"]),
-            dims: &[0],
-            measures: &[Measure::Rows, Measure::Sum(2)],
-            down: None,
-            top: None,
-            want: &[
-                &[Word("East"), Whole(2), Whole(15)],
-                &[Word("West"), Whole(2), Whole(7)],
-            ],
+            want: "East|15|2|;West|7|2|;",
+            ..BY_REGION
         },
         Case {
             keeps: Except(&["West", "North", ""]),
-            dims: &[0],
             measures: &[Measure::Rows],
-            down: None,
-            top: None,
-            want: &[&[Word("East"), Whole(2)]],
+            want: "East|2|;",
+            ..BY_REGION
         },
     ];
-    for case in &cases {
-        assert!(rt; is_told(alloc, rows, case)?);
-    }
+    check_sales(&rt, rt.alloc(), &cases)?;
+    Ok(())
+}
+
+#[test]
+fn bands_over_sales(rt: HostRuntime) -> Result<(), Fail> {
+    let by_fives = Case {
+        dims: &[(2, 5)],
+        measures: &[Measure::Rows],
+        want: "-|1|;0|1|;1|2|;2|1|;",
+        ..BY_REGION
+    };
+    let by_tens = Case {
+        dims: &[(2, 10)],
+        want: "-|1|;0|3|;1|1|;",
+        ..by_fives
+    };
+    check_sales(&rt, rt.alloc(), &[by_fives, by_tens])?;
     Ok(())
 }
 
@@ -323,26 +323,32 @@ fn answers_over_sales(rt: HostRuntime) -> Result<(), Fail> {
 fn answers_at_the_ends(rt: HostRuntime) -> Result<(), Fail> {
     let alloc = rt.alloc();
     let none = Case {
-        keeps: All,
         dims: &[],
         measures: &[Measure::Rows, Measure::Sum(2)],
-        down: None,
-        top: None,
-        want: &[&[Whole(0), Null]],
+        want: "0|-|;",
+        ..BY_REGION
     };
-    assert!(rt; is_told(alloc, &[], &none)?);
+    assert_eq!(rt; told(alloc, &[], &none)?.bytes(), b"0|-|;");
+    let below = vec![in alloc; row(alloc, "", 0, Some(-1))?]?;
+    let by_tens = Case {
+        dims: &[(2, 10)],
+        measures: &[Measure::Rows],
+        ..BY_REGION
+    };
+    assert!(rt; below.len() == 1);
+    assert_eq!(rt; told(alloc, &below, &by_tens)?.bytes(), b"-1|1|;");
     let rows = large(alloc)?;
     let rows = rows.as_slice();
     assert!(rt; rows.len() == 2);
     let sums = Case {
-        keeps: All,
         dims: &[],
         measures: &[Measure::Sum(2), Measure::Avg(2)],
-        down: None,
-        top: None,
-        want: &[&[Whole(18446744073709551614), Over(18446744073709551614, 2)]],
+        ..BY_REGION
     };
-    assert!(rt; is_told(alloc, rows, &sums)?);
+    assert_eq!(rt;
+        told(alloc, rows, &sums)?.bytes(),
+        b"18446744073709551614|18446744073709551614/2|;"
+    );
     Ok(())
 }
 
@@ -352,18 +358,24 @@ fn merges_two_folds(rt: HostRuntime) -> Result<(), Fail> {
     let rows = sales(alloc)?;
     let rows = rows.as_slice();
     assert!(rt; rows.len() == 5);
-    let case = Case {
-        keeps: All,
-        dims: &[0],
-        measures: &[Measure::Sum(2), Measure::Rows],
-        down: None,
-        top: None,
-        want: &[
-            &[Null, Whole(4), Whole(1)],
-            &[Word("East"), Whole(15), Whole(2)],
-            &[Word("West"), Whole(7), Whole(2)],
-        ],
-    };
-    assert!(rt; is_merged(alloc, &rows[..2], &rows[2..], &case)?);
+    let line = told_merged(alloc, &rows[..2], &rows[2..], &BY_REGION)?;
+    assert_eq!(rt; line.bytes(), BY_REGION.want.as_bytes());
+    Ok(())
+}
+
+#[test]
+fn rows_pass_each_predicate(rt: HostRuntime) -> Result<(), Fail> {
+    let alloc = rt.alloc();
+    let east = row(alloc, "East", 2020, None)?;
+    for (keeps, want) in [
+        (All, true),
+        (Until(2020), true),
+        (Until(2019), false),
+        (Among(&["West"]), false),
+        (Except(&["West"]), true),
+    ] {
+        let filters = filters(alloc, keeps)?;
+        assert_eq!(rt; passes(&filters, east.as_slice()), want);
+    }
     Ok(())
 }

@@ -1,4 +1,4 @@
-use Rattle.std.proofs.Common.{rules, ◌≡◌, map, ap, sym, ◌∙◌}
+use Rattle.std.proofs.Common.{rules, ◌≡◌, None, map, ap, sym, ◌∙◌}
 use Rattle.std.specs.BTreeMap.{is_at}
 use Rattle.std.specs.Map.{lookup, set_value}
 use Rattle.dq_base.specs.Orders.{key_cmp}
@@ -20,7 +20,10 @@ invariant_of-groups c =
     changed_numbered c.groups.inside.slots c.groups.inside.places.entries c.args.key.now c.in-Some.place c.groups.invariant (search rules) c.add_at.new.slots _ c.add_at.ensures
 
 pub add_group-requires : goal.add_group-requires
-add_group-requires c = none_there c.groups.inside.slots c.groups.inside.places.entries c.args.key.now (search rules)
+add_group-requires c =
+    let same : c.replace.result ≡ c.args.key.now = search rules in
+    let found : lookup (is_at (key_cmp c.args.key.now)) c.groups.inside.places.entries ≡ None = search rules in
+    rw same (none_there c.groups.inside.slots c.groups.inside.places.entries c.args.key.now found)
 
 pub returns-in-Some-clause-there : goal.returns-in-Some-clause-there
 returns-in-Some-clause-there c =

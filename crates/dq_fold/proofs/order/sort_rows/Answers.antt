@@ -7,8 +7,8 @@ use Rattle.dq_base.proofs.RowOrder.{row_weak}
 use Rattle.dq_base.proofs.StableSort.{sorted_is_ascending, rises_from_sorted}
 use Rattle.dq_fold.proofs.order.sort_rows.Goals as goal
 
-pub returns : goal.returns
-returns c =
+pub returns-clause-ok : goal.returns-clause-ok
+returns-clause-ok c =
     let lt : List Cell → List Cell → Bool = λ a b. is_lt (row_cmp c.args.q.now a b) in
     let weak = row_weak c.args.q.now in
     sorted_is_ascending (row_cmp c.args.q.now) weak c.args.rows.now.items c.sort_by.new.self.items

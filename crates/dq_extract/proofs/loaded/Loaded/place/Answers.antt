@@ -15,5 +15,5 @@ pub returns : goal.returns
 returns c =
     let P : LoadedFiles → Type 0 = λ l. IsIndexed l c.self.inside.places in
     let in_lane : Option (List ℕ) → Option ℕ = λ found. option_and_then (λ places. numbered places c.args.step) found in
-    c.copied.ensures ∙ c.item_at-2.ensures ∙ ap in_lane c.in_ok-places.ensures
+    c.copied.ensures ∙ c.numbered-2.ensures ∙ ap in_lane c.in_ok-places.ensures
     ∙ IsIndexed-at c.args.self.now c.self.inside.places c.args.lane c.args.step (subst P c.self.view_is c.self.invariant)

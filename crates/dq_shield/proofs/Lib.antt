@@ -1,0 +1,5 @@
+pub mod Changed
+pub mod Lanes
+pub mod Seen
+pub mod StillFits
+pub mod Unseen
