@@ -26,3 +26,6 @@ pub use fault::Fault;
 pub use outcome::Outcome;
 pub use rehearsing::rehearse;
 pub use telling::tell;
+
+#[cfg(test)]
+mod tests;

@@ -107,6 +107,7 @@ fn bytes_fault(left: u64) -> Fault
 /// The script that a file's bytes mean, where nothing is wanted to fail.
 fn built(alloc: Global, name: &Text, bytes: &[u8]) -> Result<Script, Fault>
     ensures told { AnswersLoad (built_script name.now (script_of bytes.now)) (λ n. ⊥) result }
+    ensures limit { IfErr result (λ f. (before now : ℕ) → TakenCause before now (Some f)) }
     ensures fits { IfOk result IsScript }
 {
     match read(alloc, bytes) {

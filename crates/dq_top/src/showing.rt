@@ -147,10 +147,13 @@ fn show_zones(
         let start = (lane, step, place as u64 + 1);
         pending = show_zone(alloc, script, starts, start, pending, zone, &mut shown)?;
     }
-    if let Some(Pending { first, .. }) = pending {
-        shown.push(same(first)?)?;
+    match pending {
+        None => Ok(shown),
+        Some(Pending { first, .. }) => {
+            shown.push(same(first)?)?;
+            Ok(shown)
+        }
     }
-    Ok(shown)
 }
 
 /// What is shown of a step.
