@@ -10,14 +10,17 @@ use Rattle.dq_base.specs.Causes.{Rose}
 use Rattle.dq_outside.specs.Reads.{Files}
 use Rattle.dq_outside.specs.Writes.{appended, WritesPrefix}
 use Rattle.dq_journal.specs.Right.{IsRight}
+use Rattle.dq_journal.specs.Shown.{Shown}
+use Rattle.dq_rehearse.specs.Legal.{Legal}
 use Rattle.dq_journal.specs.declared.entry.Entry.{Entry}
 use Rattle.dq_journal.specs.declared.result.StepResult.{StepResult}
 use Rattle.dq_report.specs.declared.writing.WriteFault.{WriteFault}
 use Rattle.dq_report.specs.declared.writing.WriteFault.TheVariants as write
 use Rattle.dq_top.specs.Loading.{Loads, loaded_of}
-use Rattle.dq_top.specs.Outcomes.{any_invalid, any_refused, loaded_files, status_of, told_of_write, AreRight, IsOfPlay, IsServed, IsWhole, Writes}
+use Rattle.dq_top.specs.Outcomes.{any_invalid, any_refused, any_wanting, loaded_files, status_of, told_of_write, AreRight, IsOfPlay, IsServed, IsWhole, Writes}
 use Rattle.dq_top.specs.declared.fault.Fault.{Fault}
 use Rattle.dq_top.specs.declared.fault.Fault.TheVariants as fault
+use Rattle.dq_top.proofs.Blended.{shown_refused}
 use Rattle.dq_top.proofs.Refused.{refused_invalid}
 
 -- what a write leaves, by what is told of it
@@ -43,27 +46,31 @@ loaded_is held files named name l m holds words loads is =
     let both : Loads m ≡ Loads l = sym (subst Named same own) ∙ loads in
     cc
 
--- the status of results that are right
-served_by : (l m : LoadedFiles) (journal : List Entry) (results : List (List StepResult)) (status : ℕ)
-    → IsRight m journal results → m ≡ l → status ≡ status_of None results → IsServed (any_invalid l.script) status
-served_by l m journal results status right same is =
-    let refused : any_refused results ≡ any_invalid l.script = refused_invalid l journal results (subst (λ k. IsRight k journal results) same right) in
-    inl (rw (← refused) is)
+-- the status of what is shown of right results
+served_by : (l m : LoadedFiles) (journal : List Entry) (results shown : List (List StepResult)) (status : ℕ)
+    → Legal m journal × IsRight m journal results × Shown m results shown → m ≡ l → any_wanting shown ≡ false → status ≡ status_of None shown → IsServed (any_invalid l.script) status
+served_by l m journal results shown status right same quiet is =
+    let refused : any_refused results ≡ any_invalid l.script = refused_invalid l journal results (subst (λ k. IsRight k journal results) same right.1) in
+    let told : any_refused shown ≡ any_invalid l.script = shown_refused m results shown right.2 quiet ∙ refused in
+    inl (rw (← told) is)
 
 -- where something was loaded
-served_over : (l : LoadedFiles) (loaded : Option (Arc LoadedFiles Global)) (journal : List Entry) (results : List (List StepResult)) (status : ℕ)
-    → IsWhole None (loaded_files loaded) → IfSome loaded (λ owner. arc_value owner ≡ l) → AreRight (loaded_files loaded) journal results
-    → status ≡ status_of None results → IsServed (any_invalid l.script) status
-served_over l None journal results status whole own right is = absurd (cc)
-served_over l (Some owner) journal results status whole own right is = served_by l (arc_value owner) journal results status right own is
+served_over : (l : LoadedFiles) (loaded : Option (Arc LoadedFiles Global)) (journal : List Entry) (results shown : List (List StepResult)) (status : ℕ)
+    → IsWhole None (loaded_files loaded) → IfSome loaded (λ owner. arc_value owner ≡ l) → AreRight (loaded_files loaded) journal results shown
+    → any_wanting shown ≡ false → status ≡ status_of None shown → IsServed (any_invalid l.script) status
+served_over l None journal results shown status whole own right quiet is = absurd (cc)
+served_over l (Some owner) journal results shown status whole own right quiet is = served_by l (arc_value owner) journal results shown status right own quiet is
 
 -- a run is answered, but for want of memory
-pub all_answered : (l : LoadedFiles) (told : Option Fault) (loaded : Option (Arc LoadedFiles Global)) (journal : List Entry) (results : List (List StepResult)) (status before now : ℕ)
-    → IsOfPlay told → IsWhole told (loaded_files loaded) → IfSome loaded (λ owner. arc_value owner ≡ l) → AreRight (loaded_files loaded) journal results
-    → status ≡ status_of told results → (told ≡ Some fault.Write → Rose before now) → ¬ Rose before now → IsServed (any_invalid l.script) status
-all_answered l None loaded journal results status before now of whole own right is cause calm = served_over l loaded journal results status whole own right is
-all_answered l (Some fault.Usage) loaded journal results status before now of whole own right is cause calm = absurd of
-all_answered l (Some (fault.Read name)) loaded journal results status before now of whole own right is cause calm = absurd of
-all_answered l (Some (fault.Unbuilt name)) loaded journal results status before now of whole own right is cause calm = absurd of
-all_answered l (Some fault.Write) loaded journal results status before now of whole own right is cause calm = absurd (calm (cause refl))
-all_answered l (Some fault.Memory) loaded journal results status before now of whole own right is cause calm = inr is
+pub all_answered : (l : LoadedFiles) (told : Option Fault) (loaded : Option (Arc LoadedFiles Global)) (journal : List Entry) (results shown : List (List StepResult)) (status before now : ℕ)
+    → IsOfPlay told → IsWhole told (loaded_files loaded) → IfSome loaded (λ owner. arc_value owner ≡ l) → AreRight (loaded_files loaded) journal results shown
+    → status ≡ status_of told shown → (told ≡ None → any_wanting shown ≡ false) → (told ≡ Some fault.Write → Rose before now) → ¬ Rose before now → IsServed (any_invalid l.script) status
+all_answered l None loaded journal results shown status before now of whole own right is quiet cause calm = served_over l loaded journal results shown status whole own right (quiet refl) is
+all_answered l (Some fault.Usage) loaded journal results shown status before now of whole own right is quiet cause calm = absurd of
+all_answered l (Some (fault.Read name)) loaded journal results shown status before now of whole own right is quiet cause calm = absurd of
+all_answered l (Some (fault.Script name f)) loaded journal results shown status before now of whole own right is quiet cause calm = absurd of
+all_answered l (Some (fault.File name f)) loaded journal results shown status before now of whole own right is quiet cause calm = absurd of
+all_answered l (Some fault.Write) loaded journal results shown status before now of whole own right is quiet cause calm = absurd (calm (cause refl))
+all_answered l (Some fault.Memory) loaded journal results shown status before now of whole own right is quiet cause calm = inr is
+all_answered l (Some (fault.Limit which value)) loaded journal results shown status before now of whole own right is quiet cause calm = absurd of
+all_answered l (Some (fault.Unbuilt name)) loaded journal results shown status before now of whole own right is quiet cause calm = absurd of

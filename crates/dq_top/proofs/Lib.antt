@@ -1,5 +1,9 @@
+pub mod Beginnings
 pub mod Behind
+pub mod Blended
+pub mod Content
 pub mod Fine
 pub mod Reached
 pub mod Refused
-pub mod Scripts
+pub mod ScriptLimits
+pub mod Shows

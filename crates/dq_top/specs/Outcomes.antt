@@ -1,47 +1,40 @@
 -- What the top call answers, by what it tells.
-use Rattle.std.specs.Prelude.{◌≡◌, ◌⊎◌, ⊤, ℕ, Bool, true, false, List, [], ◌++◌, Option, Some, None, IfSome, codes, is_some, option_map, if◌then◌else◌, Result, Ok, Err}
+use Rattle.std.specs.Prelude.{◌≡◌, ◌⊎◌, ⊤, ℕ, Bool, true, false, List, [], ◌+◌, Option, Some, None, IfSome, is_some, option_map, if◌then◌else◌, Result, Ok, Err}
 use Rattle.std.specs.Arc.{arc_value}
 use Rattle.std.specs.List.{list_any}
 use Rattle.std.specs.declared.alloc.Global.{Global}
 use Rattle.std.specs.declared.sync.Arc.{Arc}
 use Rattle.dq_base.specs.Headings.{Heading}
 use Rattle.dq_base.specs.Validity.{invalid_by}
+use Rattle.dq_base.specs.declared.limit.Limit.{Limit}
+use Rattle.dq_base.specs.declared.limit.Limit.TheVariants as limit
 use Rattle.dq_base.specs.declared.query.Query.{Query}
 use Rattle.dq_base.specs.declared.script.Script.{Script}
 use Rattle.dq_base.specs.declared.script.Step.{Step}
 use Rattle.dq_base.specs.declared.script.Step.TheVariants as step
-use Rattle.dq_base.specs.Causes.{Rose}
+use Rattle.dq_base.specs.Causes.{Rose, RoseBy}
 use Rattle.dq_outside.specs.Reads.{Files}
 use Rattle.dq_outside.specs.Writes.{appended, WritesPrefix}
-use Rattle.dq_outside.specs.declared.folder.FolderFault.{FolderFault}
-use Rattle.dq_outside.specs.declared.folder.FolderFault.TheVariants as folder
 use Rattle.dq_extract.specs.Loads.{LoadedFiles}
 use Rattle.dq_journal.specs.Right.{IsRight}
+use Rattle.dq_journal.specs.Shown.{Shown}
 use Rattle.dq_journal.specs.declared.entry.Entry.{Entry}
 use Rattle.dq_journal.specs.declared.result.ZoneResult.{ZoneResult}
 use Rattle.dq_journal.specs.declared.result.ZoneResult.TheVariants as zone
 use Rattle.dq_journal.specs.declared.result.StepResult.{StepResult}
 use Rattle.dq_journal.specs.declared.result.StepResult.TheVariants.{Published, Unpublished, Admitted, Unadmitted}
+use Rattle.dq_base.specs.Limits.{cell_room}
+use Rattle.dq_extract.specs.declared.fault.LoadFault.{LoadFault}
+use Rattle.dq_extract.specs.declared.fault.LoadFault.TheVariants as load
+use Rattle.dq_rehearse.specs.Legal.{Legal}
+use Rattle.dq_script.specs.declared.fault.ScriptFault.{ScriptFault}
+use Rattle.dq_script.specs.declared.fault.ScriptFault.TheVariants as script
 use Rattle.dq_report.specs.declared.writing.WriteFault.{WriteFault}
 use Rattle.dq_report.specs.declared.writing.WriteFault.TheVariants as write
-use Rattle.dq_top.specs.Loading.{Load, Loads, Unbuilt, loaded_of, names_read, IsAmong}
+use Rattle.dq_top.specs.Loading.{Load, Loads, Refused, loaded_of, names_read, IsAmong}
+use Rattle.dq_top.specs.Telling.{fault_status}
 use Rattle.dq_top.specs.declared.fault.Fault.{Fault}
 use Rattle.dq_top.specs.declared.fault.Fault.TheVariants as fault
-
-abbrev pub fault_status : Fault → ℕ
-fault_status fault.Usage = 2
-fault_status (fault.Read name) = 3
-fault_status (fault.Unbuilt name) = 8
-fault_status fault.Write = 5
-fault_status fault.Memory = 6
-
--- the line that tells a fault
-abbrev pub fault_line : Fault → List ℕ
-fault_line fault.Usage = codes "dashboards: usage"
-fault_line (fault.Read name) = codes "dashboards: cannot read " ++ name
-fault_line (fault.Unbuilt name) = codes "dashboards: " ++ name ++ codes ": not built"
-fault_line fault.Write = codes "dashboards: cannot write"
-fault_line fault.Memory = codes "dashboards: out of memory"
 
 -- what was refused
 
@@ -113,14 +106,18 @@ abbrev pub IsWhole : Option Fault → Option LoadedFiles → Type 0
 IsWhole None loaded = (l : LoadedFiles) × (loaded ≡ Some l)
 IsWhole (Some fault.Usage) loaded = loaded ≡ None
 IsWhole (Some (fault.Read name)) loaded = loaded ≡ None
-IsWhole (Some (fault.Unbuilt name)) loaded = loaded ≡ None
+IsWhole (Some (fault.Script name f)) loaded = loaded ≡ None
+IsWhole (Some (fault.File name f)) loaded = loaded ≡ None
 IsWhole (Some fault.Write) loaded = (l : LoadedFiles) × (loaded ≡ Some l)
 IsWhole (Some fault.Memory) loaded = ⊤
+IsWhole (Some (fault.Limit which value)) loaded = loaded ≡ None
+IsWhole (Some (fault.Unbuilt name)) loaded = loaded ≡ None
 
--- where something was loaded, the results are right for it and the journal; else there are none
-abbrev pub AreRight : Option LoadedFiles → List Entry → List (List StepResult) → Type 0
-AreRight None journal results = (journal ≡ []) × (results ≡ [])
-AreRight (Some l) journal results = IsRight l journal results
+-- where something was loaded, the journal is legal, the results are right for both, and the script's blends are shown of them;
+-- else there are none
+abbrev pub AreRight : Option LoadedFiles → List Entry → List (List StepResult) → List (List StepResult) → Type 0
+AreRight None journal results shown = (journal ≡ []) × (results ≡ []) × (shown ≡ [])
+AreRight (Some l) journal results shown = Legal l journal × IsRight l journal results × Shown l results shown
 
 -- what is written
 
@@ -134,9 +131,12 @@ abbrev pub Writes : Option (List ℕ) → Option (List ℕ) → List ℕ → Opt
 Writes before now report loaded None = now ≡ appended before report
 Writes before now report loaded (Some fault.Usage) = now ≡ before
 Writes before now report loaded (Some (fault.Read name)) = now ≡ before
-Writes before now report loaded (Some (fault.Unbuilt name)) = now ≡ before
+Writes before now report loaded (Some (fault.Script name f)) = now ≡ before
+Writes before now report loaded (Some (fault.File name f)) = now ≡ before
 Writes before now report loaded (Some fault.Write) = WritesPrefix before now report
 Writes before now report loaded (Some fault.Memory) = WritesSome before now report loaded
+Writes before now report loaded (Some (fault.Limit which value)) = now ≡ before
+Writes before now report loaded (Some (fault.Unbuilt name)) = now ≡ before
 
 -- answers and their causes
 
@@ -145,18 +145,45 @@ abbrev pub AnswersFiles : Files → List ℕ → Option Fault → Type 0
 AnswersFiles files name None = (l : LoadedFiles) × (loaded_of files name ≡ Loads l)
 AnswersFiles files name (Some fault.Usage) = ⊥
 AnswersFiles files name (Some (fault.Read n)) = IsAmong n (names_read files name)
-AnswersFiles files name (Some (fault.Unbuilt n)) = loaded_of files name ≡ Unbuilt n
+AnswersFiles files name (Some (fault.Script n f)) = loaded_of files name ≡ Refused (fault.Script n f)
+AnswersFiles files name (Some (fault.File n f)) = loaded_of files name ≡ Refused (fault.File n f)
 AnswersFiles files name (Some fault.Write) = (l : LoadedFiles) × (loaded_of files name ≡ Loads l)
 AnswersFiles files name (Some fault.Memory) = ⊤
+AnswersFiles files name (Some (fault.Limit which value)) = loaded_of files name ≡ Refused (fault.Limit which value)
+AnswersFiles files name (Some (fault.Unbuilt n)) = loaded_of files name ≡ Refused (fault.Unbuilt n)
 
 -- a fault of reading comes only where the folder's count rose, and names its last fault
 abbrev pub ReadCause : ℕ → ℕ → Option (List ℕ) → Option Fault → Type 0
 ReadCause before now last None = ⊤
 ReadCause before now last (Some fault.Usage) = ⊤
 ReadCause before now last (Some (fault.Read name)) = Rose before now × IfSome last (λ n. n ≡ name)
-ReadCause before now last (Some (fault.Unbuilt name)) = ⊤
+ReadCause before now last (Some (fault.Script name f)) = ⊤
+ReadCause before now last (Some (fault.File name f)) = ⊤
 ReadCause before now last (Some fault.Write) = ⊤
 ReadCause before now last (Some fault.Memory) = ⊤
+ReadCause before now last (Some (fault.Limit which value)) = ⊤
+ReadCause before now last (Some (fault.Unbuilt name)) = ⊤
+
+-- a limit on bytes is passed only where the folder took more in the call
+abbrev pub LimitCause : ℕ → ℕ → Limit → ℕ → Type 0
+LimitCause before now limit.ScriptBytes value = RoseBy (value + 1) before now
+LimitCause before now limit.FileBytes value = RoseBy (value + 1) before now
+LimitCause before now limit.AllBytes value = RoseBy (value + 1) before now
+LimitCause before now which value = ⊤
+
+abbrev pub TakenCause : ℕ → ℕ → Option Fault → Type 0
+TakenCause before now (Some (fault.Limit which value)) = LimitCause before now which value
+TakenCause before now told = ⊤
+
+-- nothing was asked of the folder or of the sink where the words are refused, and nothing of the sink where a run didn't begin
+abbrev pub IsUntouched : {F S : Type 0} → Option Fault → F → F → S → S → Type 0
+IsUntouched (Some fault.Usage) folder asked sink wrote = (asked ≡ folder) × (wrote ≡ sink)
+IsUntouched (Some (fault.Read name)) folder asked sink wrote = wrote ≡ sink
+IsUntouched (Some (fault.Script name f)) folder asked sink wrote = wrote ≡ sink
+IsUntouched (Some (fault.File name f)) folder asked sink wrote = wrote ≡ sink
+IsUntouched (Some (fault.Limit which value)) folder asked sink wrote = wrote ≡ sink
+IsUntouched (Some (fault.Unbuilt name)) folder asked sink wrote = wrote ≡ sink
+IsUntouched told folder asked sink wrote = ⊤
 
 -- parts of the run
 
@@ -165,42 +192,48 @@ abbrev pub AnswersLoad : {A : Type 0} → Load A → (List ℕ → Type 0) → R
 AnswersLoad want IsRead (Ok x) = want ≡ Loads x
 AnswersLoad want IsRead (Err fault.Usage) = ⊥
 AnswersLoad want IsRead (Err (fault.Read name)) = IsRead name
-AnswersLoad want IsRead (Err (fault.Unbuilt name)) = want ≡ Unbuilt name
+AnswersLoad want IsRead (Err (fault.Script name f)) = want ≡ Refused (fault.Script name f)
+AnswersLoad want IsRead (Err (fault.File name f)) = want ≡ Refused (fault.File name f)
 AnswersLoad want IsRead (Err fault.Write) = ⊥
 AnswersLoad want IsRead (Err fault.Memory) = ⊤
+AnswersLoad want IsRead (Err (fault.Limit which value)) = want ≡ Refused (fault.Limit which value)
+AnswersLoad want IsRead (Err (fault.Unbuilt name)) = want ≡ Refused (fault.Unbuilt name)
 
--- the fault of a file that isn't built: its name, or want of memory
-abbrev pub NamesUnbuilt : List ℕ → Fault → Type 0
-NamesUnbuilt name fault.Usage = ⊥
-NamesUnbuilt name (fault.Read n) = ⊥
-NamesUnbuilt name (fault.Unbuilt n) = n ≡ name
-NamesUnbuilt name fault.Write = ⊥
-NamesUnbuilt name fault.Memory = ⊤
+-- this fault, or want of memory
+abbrev pub IsFault : Fault → Fault → Type 0
+IsFault want fault.Memory = ⊤
+IsFault want told = told ≡ want
 
--- the fault of a file that a folder didn't give, by the folder's
-abbrev pub NamesFault : List ℕ → FolderFault → Fault → Type 0
-NamesFault name of fault.Usage = ⊥
-NamesFault name of (fault.Read n) = (of ≡ folder.Failed) × (n ≡ name)
-NamesFault name of (fault.Unbuilt n) = (of ≡ folder.TooLong) × (n ≡ name)
-NamesFault name of fault.Write = ⊥
-NamesFault name of fault.Memory = ⊤
+-- the fault of a script by its reader's, or want of memory
+abbrev pub TellsScript : List ℕ → ScriptFault → Fault → Type 0
+TellsScript name script.NotJson told = IsFault (fault.Script name script.NotJson) told
+TellsScript name (script.Shape path) told = IsFault (fault.Script name (script.Shape path)) told
+TellsScript name (script.Limit which value) told = IsFault (fault.Limit which value) told
+TellsScript name (script.UnknownExtract path) told = IsFault (fault.Script name (script.UnknownExtract path)) told
+TellsScript name (script.UnknownLane path) told = IsFault (fault.Script name (script.UnknownLane path)) told
+TellsScript name script.Memory told = told ≡ fault.Memory
+
+-- the fault of a file by its loader's, or want of memory
+abbrev pub TellsRows : List ℕ → LoadFault → Fault → Type 0
+TellsRows name load.Header told = IsFault (fault.File name load.Header) told
+TellsRows name (load.Width row) told = IsFault (fault.File name (load.Width row)) told
+TellsRows name (load.Number row column) told = IsFault (fault.File name (load.Number row column)) told
+TellsRows name (load.NotText row column) told = IsFault (fault.File name (load.NotText row column)) told
+TellsRows name load.TooManyCells told = IsFault (fault.Limit limit.Cells cell_room) told
+TellsRows name load.Memory told = told ≡ fault.Memory
 
 -- a fault that loading may answer
 abbrev pub IsOfLoading : Fault → Type 0
 IsOfLoading fault.Usage = ⊥
-IsOfLoading (fault.Read name) = ⊤
-IsOfLoading (fault.Unbuilt name) = ⊤
 IsOfLoading fault.Write = ⊥
-IsOfLoading fault.Memory = ⊤
+IsOfLoading f = ⊤
 
 -- what may be told once all is loaded
 abbrev pub IsOfPlay : Option Fault → Type 0
 IsOfPlay None = ⊤
-IsOfPlay (Some fault.Usage) = ⊥
-IsOfPlay (Some (fault.Read name)) = ⊥
-IsOfPlay (Some (fault.Unbuilt name)) = ⊥
 IsOfPlay (Some fault.Write) = ⊤
 IsOfPlay (Some fault.Memory) = ⊤
+IsOfPlay (Some f) = ⊥
 
 -- what is told of a write, where the results want memory or don't
 abbrev pub told_of_write : Bool → Result ⊤ WriteFault → Option Fault

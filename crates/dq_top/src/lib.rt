@@ -17,11 +17,15 @@ mod outcome;
 mod progress;
 mod refusals;
 mod rehearsing;
+mod showing;
+mod starts;
+mod telling;
 mod words;
 
-pub use fault::{Fault, tell};
+pub use fault::Fault;
 pub use outcome::Outcome;
 pub use rehearsing::rehearse;
+pub use telling::tell;
 
 #[cfg(test)]
 mod tests;

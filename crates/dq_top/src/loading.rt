@@ -1,32 +1,41 @@
-ghost use Rattle.std.specs.Prelude.{◌≡◌, ◌<◌, ◌≤◌, ◌++◌, ◌∷◌, [], ℕ, List as ListOf, true, All, IfErr, IfOk, IfSome, Some, length, slice_get, sum_by};
+ghost use Rattle.std.specs.Prelude.{◌≡◌, ◌-◌, ◌<◌, ◌≤◌, ◌++◌, ◌∷◌, [], ℕ, List as ListOf, true, All, IfErr, IfOk, IfSome, Some, length, slice_get, sum_by};
 ghost use Rattle.std.specs.List.{flat_map, list_all};
+ghost use Rattle.dq_base.specs.Causes.{RoseBy};
 ghost use Rattle.dq_base.specs.Headings.{Heading};
 ghost use Rattle.dq_base.specs.Limits.{all_room, cell_room};
 ghost use Rattle.dq_base.specs.Scripts.{IsScript, heading_fits, lane_fits, source_in, sources_of, step_fits};
 ghost use Rattle.dq_base.specs.Versions.{IsVersion, cells_of};
 ghost use Rattle.dq_extract.specs.Loads.{AreOf};
 ghost use Rattle.dq_script.specs.Scripts.{script_of};
-ghost use Rattle.dq_top.specs.Loading.{IsAmong, built_script, files_read, loaded_of, names_read, publication_in, publications, script_in, versions_in};
-ghost use Rattle.dq_top.specs.Outcomes.{AnswersLoad, IsOfLoading, NamesFault, NamesUnbuilt, ReadCause};
-ghost use Rattle.dq_top.specs.Progress.{AnswersProgress, IsProgress, behind_one};
+ghost use Rattle.dq_top.specs.Loading.{IsAmong, built_script, bytes_fault, files_of, files_read, loaded_of, names_read, publication_in, publications, script_in, versions_in};
+ghost use Rattle.dq_top.specs.Outcomes.{AnswersLoad, IsFault, IsOfLoading, ReadCause, TakenCause, TellsRows, TellsScript};
+ghost use Rattle.dq_top.specs.Progress.{AnswersProgress, IsProgress, IsWithin, TakenBy, behind_one};
 
 use crate::fault::Fault;
 use crate::progress::{Progress, begun, with_segment};
-use dq_base::{Memory, Schema, Schemas, Script, Step, Steps, Text};
+use dq_base::{
+    ALL_BYTES, FILE_BYTES, Limit, MOST_CELLS, Memory, SCRIPT_BYTES, Schema, Schemas, Script, Step,
+    Steps, Text,
+};
 use dq_extract::{LoadFault, Loaded, SegmentList, load};
 use dq_outside::{Folder, FolderFault};
 use dq_script::{ScriptFault, read, wants_no_fault};
+use dq_shield::shield;
 use std::alloc::Global;
 
-/// The most bytes of a script.
-const SCRIPT_BYTES: u64 = 16777216;
+/// The fault of a file that couldn't be read.
+fn unread(alloc: Global, name: &Text) -> Fault
+    ensures { IsFault (Fault.Read name.now) result }
+{
+    match Text::copy_of(alloc, name.bytes()) {
+        Ok(copy) => Fault::Read(copy),
+        Err(Memory) => Fault::Memory,
+    }
+}
 
-/// The most bytes of one file of a publish step.
-const FILE_BYTES: u64 = 67108864;
-
-/// The fault of a file that isn't built.
+/// The fault of a script that wants something to fail.
 fn unbuilt(alloc: Global, name: &Text) -> Fault
-    ensures { NamesUnbuilt name.now result }
+    ensures { IsFault (Fault.Unbuilt name.now) result }
 {
     match Text::copy_of(alloc, name.bytes()) {
         Ok(copy) => Fault::Unbuilt(copy),
@@ -34,24 +43,71 @@ fn unbuilt(alloc: Global, name: &Text) -> Fault
     }
 }
 
-/// The fault of a file that a folder didn't give.
-fn ungiven(alloc: Global, name: &Text, fault: FolderFault) -> Fault
-    ensures { NamesFault name.now fault result }
+/// The fault of a file with that fault of a script.
+fn of_script(alloc: Global, name: &Text, fault: ScriptFault) -> Fault
+    ensures { IsFault (Fault.Script name.now fault) result }
+{
+    match Text::copy_of(alloc, name.bytes()) {
+        Ok(copy) => Fault::Script(copy, fault),
+        Err(Memory) => Fault::Memory,
+    }
+}
+
+/// The fault of a file that is no script.
+fn script_fault(alloc: Global, name: &Text, fault: ScriptFault) -> Fault
+    ensures { TellsScript name.now fault result }
 {
     match fault {
-        FolderFault::Failed => match Text::copy_of(alloc, name.bytes()) {
-            Ok(copy) => Fault::Read(copy),
-            Err(Memory) => Fault::Memory,
-        },
-        FolderFault::TooLong => unbuilt(alloc, name),
-        FolderFault::Memory => Fault::Memory,
+        ScriptFault::NotJson => of_script(alloc, name, ScriptFault::NotJson),
+        ScriptFault::Shape(path) => of_script(alloc, name, ScriptFault::Shape(path)),
+        ScriptFault::Limit(limit, value) => Fault::Limit(limit, value),
+        ScriptFault::UnknownExtract(path) => {
+            of_script(alloc, name, ScriptFault::UnknownExtract(path))
+        }
+        ScriptFault::UnknownLane(path) => of_script(alloc, name, ScriptFault::UnknownLane(path)),
+        ScriptFault::Memory => Fault::Memory,
+    }
+}
+
+/// The fault of a file with that fault of its rows.
+fn of_rows(alloc: Global, name: &Text, fault: LoadFault) -> Fault
+    ensures { IsFault (Fault.File name.now fault) result }
+{
+    match Text::copy_of(alloc, name.bytes()) {
+        Ok(copy) => Fault::File(copy, fault),
+        Err(Memory) => Fault::Memory,
+    }
+}
+
+/// The fault of a file that has no rows of its extract.
+fn rows_fault(alloc: Global, name: &Text, fault: LoadFault) -> Fault
+    ensures { TellsRows name.now fault result }
+{
+    match fault {
+        LoadFault::Header => of_rows(alloc, name, LoadFault::Header),
+        LoadFault::Width(row) => of_rows(alloc, name, LoadFault::Width(row)),
+        LoadFault::Number(row, column) => of_rows(alloc, name, LoadFault::Number(row, column)),
+        LoadFault::NotText(row, column) => of_rows(alloc, name, LoadFault::NotText(row, column)),
+        LoadFault::TooManyCells => Fault::Limit(Limit::Cells, MOST_CELLS),
+        LoadFault::Memory => Fault::Memory,
+    }
+}
+
+/// The limit that a file passes for which so many bytes are left.
+fn bytes_fault(left: u64) -> Fault
+    ensures { result ≡ bytes_fault left }
+{
+    if left < FILE_BYTES {
+        Fault::Limit(Limit::AllBytes, ALL_BYTES)
+    } else {
+        Fault::Limit(Limit::FileBytes, FILE_BYTES)
     }
 }
 
 /// The script that a file's bytes mean, where nothing is wanted to fail.
 fn built(alloc: Global, name: &Text, bytes: &[u8]) -> Result<Script, Fault>
-    ensures told { AnswersLoad (built_script name.now (script_of bytes.now)) (λ n. n ≡ name.now) result }
-    ensures kind { IfErr result (NamesUnbuilt name.now) }
+    ensures told { AnswersLoad (built_script name.now (script_of bytes.now)) (λ n. ⊥) result }
+    ensures limit { IfErr result (λ f. (before now : ℕ) → TakenCause before now (Some f)) }
     ensures fits { IfOk result IsScript }
 {
     match read(alloc, bytes) {
@@ -62,8 +118,7 @@ fn built(alloc: Global, name: &Text, bytes: &[u8]) -> Result<Script, Fault>
                 Err(unbuilt(alloc, name))
             }
         }
-        Err(ScriptFault::Unbuilt) => Err(unbuilt(alloc, name)),
-        Err(ScriptFault::Memory) => Err(Fault::Memory),
+        Err(fault) => Err(script_fault(alloc, name, fault)),
     }
 }
 
@@ -74,11 +129,15 @@ pub fn read_script<F: Folder>(alloc: Global, name: &Text, folder: &mut F) -> Res
     ensures later { F.faults folder.old ≤ F.faults folder.new }
     ensures cause { IfErr result (λ f. ReadCause (F.faults folder.old) (F.faults folder.new) (F.last_fault folder.new) (Some f)) }
     ensures kind { IfErr result IsOfLoading }
+    ensures taken { F.taken folder.old ≤ F.taken folder.new }
+    ensures limit { IfErr result (λ f. TakenCause (F.taken folder.old) (F.taken folder.new) (Some f)) }
     ensures fits { IfOk result IsScript }
 {
     let bytes = match folder.read(alloc, name, SCRIPT_BYTES) {
         Ok(bytes) => bytes,
-        Err(fault) => return Err(ungiven(alloc, name, fault)),
+        Err(FolderFault::Failed) => return Err(unread(alloc, name)),
+        Err(FolderFault::TooLong) => return Err(Fault::Limit(Limit::ScriptBytes, SCRIPT_BYTES)),
+        Err(FolderFault::Memory) => return Err(Fault::Memory),
     };
     built(alloc, name, bytes.bytes())
 }
@@ -105,26 +164,28 @@ fn load_file<F: Folder>(
     folder: &mut F,
 ) -> Result<Progress, Fault>
     requires columns { 0 < length schema.now.names }
-    requires cells { progress.cells ≤ cell_room }
+    requires within { IsWithin progress }
     ensures kept { F.files folder.new ≡ F.files folder.old }
     ensures told { IfSome (F.files folder.old) (λ files. AnswersLoad (behind_one files progress (record { heading = schema.now; file = name.now })) (λ n. n ≡ name.now) result) }
     ensures later { F.faults folder.old ≤ F.faults folder.new }
     ensures cause { IfErr result (λ f. ReadCause (F.faults folder.old) (F.faults folder.new) (F.last_fault folder.new) (Some f)) }
     ensures kind { IfErr result IsOfLoading }
-    ensures cells { IfOk result (λ next. next.cells ≤ cell_room) }
+    ensures within { IfOk result IsWithin }
+    ensures taken { (start : ℕ) → RoseBy (all_room - progress.left) start (F.taken folder.old) → TakenBy start (F.taken folder.new) result }
     ensures progress { (schemas : ListOf Heading) (sources : ListOf ℕ) (source : ℕ)
         → slice_get schemas source ≡ Some schema.now → IsProgress schemas sources progress
         → IfOk result (IsProgress schemas (sources ++ source ∷ [])) }
 {
-    let room = progress.left.min(FILE_BYTES);
-    let bytes = match folder.read(alloc, name, room) {
+    let left = progress.left;
+    let bytes = match folder.read(alloc, name, left.min(FILE_BYTES)) {
         Ok(bytes) => bytes,
-        Err(fault) => return Err(ungiven(alloc, name, fault)),
+        Err(FolderFault::Failed) => return Err(unread(alloc, name)),
+        Err(FolderFault::TooLong) => return Err(bytes_fault(left)),
+        Err(FolderFault::Memory) => return Err(Fault::Memory),
     };
     let segment = match load(alloc, schema, progress.cells, bytes.bytes()) {
         Ok(segment) => segment,
-        Err(LoadFault::Unbuilt) => return Err(unbuilt(alloc, name)),
-        Err(LoadFault::Memory) => return Err(Fault::Memory),
+        Err(fault) => return Err(rows_fault(alloc, name, fault)),
     };
     match with_segment(alloc, progress, bytes.len(), segment) {
         Ok(next) => Ok(next),
@@ -142,13 +203,14 @@ fn load_step<F: Folder>(
 ) -> Result<Progress, Fault>
     requires columns { list_all heading_fits schemas.now ≡ true }
     requires fits { step_fits (length schemas.now) step.now ≡ true }
-    requires cells { progress.cells ≤ cell_room }
+    requires within { IsWithin progress }
     ensures kept { F.files folder.new ≡ F.files folder.old }
     ensures told { IfSome (F.files folder.old) (λ files. AnswersProgress files progress (publication_in schemas.now step.now) result) }
     ensures later { F.faults folder.old ≤ F.faults folder.new }
     ensures cause { IfErr result (λ f. ReadCause (F.faults folder.old) (F.faults folder.new) (F.last_fault folder.new) (Some f)) }
     ensures kind { IfErr result IsOfLoading }
-    ensures cells { IfOk result (λ next. next.cells ≤ cell_room) }
+    ensures within { IfOk result IsWithin }
+    ensures taken { (start : ℕ) → RoseBy (all_room - progress.left) start (F.taken folder.old) → TakenBy start (F.taken folder.new) result }
     ensures progress { (sources : ListOf ℕ) → IsProgress schemas.now sources progress → IfOk result (IsProgress schemas.now (sources ++ source_in step.now)) }
 {
     match step {
@@ -169,13 +231,14 @@ fn load_lane<F: Folder>(
 ) -> Result<Progress, Fault>
     requires columns { list_all heading_fits schemas.now ≡ true }
     requires fits { list_all (step_fits (length schemas.now)) steps.now ≡ true }
-    requires cells { progress.cells ≤ cell_room }
+    requires within { IsWithin progress }
     ensures kept { F.files folder.new ≡ F.files folder.old }
     ensures told { IfSome (F.files folder.old) (λ files. AnswersProgress files progress (flat_map (publication_in schemas.now) steps.now) result) }
     ensures later { F.faults folder.old ≤ F.faults folder.new }
     ensures cause { IfErr result (λ f. ReadCause (F.faults folder.old) (F.faults folder.new) (F.last_fault folder.new) (Some f)) }
     ensures kind { IfErr result IsOfLoading }
-    ensures cells { IfOk result (λ next. next.cells ≤ cell_room) }
+    ensures within { IfOk result IsWithin }
+    ensures taken { (start : ℕ) → RoseBy (all_room - progress.left) start (F.taken folder.old) → TakenBy start (F.taken folder.new) result }
     ensures progress { (sources : ListOf ℕ) → IsProgress schemas.now sources progress → IfOk result (IsProgress schemas.now (sources ++ flat_map source_in steps.now)) }
 {
     let mut so_far = progress;
@@ -201,6 +264,7 @@ fn load_lanes<F: Folder>(
     ensures later { F.faults folder.old ≤ F.faults folder.new }
     ensures cause { IfErr result (λ f. ReadCause (F.faults folder.old) (F.faults folder.new) (F.last_fault folder.new) (Some f)) }
     ensures kind { IfErr result IsOfLoading }
+    ensures taken { (start : ℕ) → start ≤ F.taken folder.old → TakenBy start (F.taken folder.new) result }
     ensures progress { IfOk result (IsProgress schemas.now (sources_of lanes.now)) }
 {
     let mut so_far = begun(alloc);
@@ -225,6 +289,7 @@ fn load_segments<F: Folder>(
     ensures later { F.faults folder.old ≤ F.faults folder.new }
     ensures cause { IfErr result (λ f. ReadCause (F.faults folder.old) (F.faults folder.new) (F.last_fault folder.new) (Some f)) }
     ensures kind { IfErr result IsOfLoading }
+    ensures limit { (start : ℕ) → start ≤ F.taken folder.old → IfErr result (λ f. TakenCause start (F.taken folder.new) (Some f)) }
     ensures fit { IfOk result (λ segments. AreOf script.now.schemas (sources_of script.now.lanes) segments) }
     ensures cells { IfOk result (λ segments. sum_by cells_of segments ≤ cell_room) }
     ensures versions { IfOk result (λ segments. All IsVersion segments) }
@@ -235,23 +300,39 @@ fn load_segments<F: Folder>(
     }
 }
 
-/// Loads the script of that name and its files.
-pub fn load_script<F: Folder>(alloc: Global, name: &Text, folder: &mut F) -> Result<Loaded, Fault>
-    ensures told { IfSome (F.files folder.old) (λ files. AnswersLoad (loaded_of files name.now) (λ n. IsAmong n (names_read files name.now)) result) }
+/// Loads the files of a script that is shielded already.
+fn load_files<F: Folder>(alloc: Global, script: Script, folder: &mut F) -> Result<Loaded, Fault>
+    requires { IsScript script }
+    ensures told { IfSome (F.files folder.old) (λ files. AnswersLoad (files_of files script) (λ n. IsAmong n (files_read files all_room cell_room (publications script))) result) }
     ensures later { F.faults folder.old ≤ F.faults folder.new }
     ensures cause { IfErr result (λ f. ReadCause (F.faults folder.old) (F.faults folder.new) (F.last_fault folder.new) (Some f)) }
     ensures kind { IfErr result IsOfLoading }
+    ensures limit { (start : ℕ) → start ≤ F.taken folder.old → IfErr result (λ f. TakenCause start (F.taken folder.new) (Some f)) }
 {
-    let script = match read_script(alloc, name, folder) {
-        Ok(script) => script,
-        Err(fault) => return Err(fault),
-    };
     let segments = match load_segments(alloc, &script, folder) {
         Ok(segments) => segments,
         Err(fault) => return Err(fault),
     };
     match Loaded::new(alloc, script, segments) {
         Ok(loaded) => Ok(loaded),
+        Err(Memory) => Err(Fault::Memory),
+    }
+}
+
+/// Loads the script of that name and its files. Each zone then asks of what its lane's session leaves of its source.
+pub fn load_script<F: Folder>(alloc: Global, name: &Text, folder: &mut F) -> Result<Loaded, Fault>
+    ensures told { IfSome (F.files folder.old) (λ files. AnswersLoad (loaded_of files name.now) (λ n. IsAmong n (names_read files name.now)) result) }
+    ensures later { F.faults folder.old ≤ F.faults folder.new }
+    ensures cause { IfErr result (λ f. ReadCause (F.faults folder.old) (F.faults folder.new) (F.last_fault folder.new) (Some f)) }
+    ensures kind { IfErr result IsOfLoading }
+    ensures limit { IfErr result (λ f. TakenCause (F.taken folder.old) (F.taken folder.new) (Some f)) }
+{
+    let script = match read_script(alloc, name, folder) {
+        Ok(script) => script,
+        Err(fault) => return Err(fault),
+    };
+    match shield(alloc, script) {
+        Ok(script) => load_files(alloc, script, folder),
         Err(Memory) => Err(Fault::Memory),
     }
 }

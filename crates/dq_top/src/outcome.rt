@@ -14,7 +14,7 @@ use std::sync::Arc;
 ///
 /// The status is 0 where the report was written and nothing is refused, 1 where some zone is refused for its query or for the
 /// back end, and else that of what is told. What was loaded is there exactly where the run began; then the results are
-/// right for it and for the journal, one item for each lane.
+/// right for it and for the journal, one item for each lane, and `shown` has the blends of them that the report tells.
 #[derive(Drop)]
 pub struct Outcome {
     pub status: u8,
@@ -22,6 +22,7 @@ pub struct Outcome {
     pub loaded: Option<Arc<Loaded>>,
     pub journal: Journal,
     pub results: LaneResultsList,
+    pub shown: LaneResultsList,
 }
 
 /// The outcome of a run that didn't begin.
@@ -30,6 +31,7 @@ pub fn refused(alloc: Global, fault: Fault) -> Outcome
     ensures loaded { result.loaded ≡ None }
     ensures journal { result.journal.entries ≡ [] }
     ensures results { result.results ≡ [] }
+    ensures shown { result.shown ≡ [] }
     ensures status { result.status ≡ status_of (Some fault) [] }
 {
     Outcome {
@@ -38,6 +40,7 @@ pub fn refused(alloc: Global, fault: Fault) -> Outcome
         loaded: None,
         journal: Journal::new(alloc),
         results: List::new(alloc),
+        shown: List::new(alloc),
     }
 }
 

@@ -2,18 +2,12 @@ ghost use Rattle.std.specs.Prelude.{◌≡◌, ◌≤◌, ◌++◌, ◌∷◌, [
 ghost use Rattle.dq_base.specs.Headings.{Heading};
 ghost use Rattle.dq_base.specs.Limits.{all_room, cell_room};
 ghost use Rattle.dq_base.specs.Versions.{cells_of};
-ghost use Rattle.dq_top.specs.Progress.{IsProgress, with_version};
+ghost use Rattle.dq_top.specs.Progress.{IsProgress, IsWithin, with_version};
 
-use dq_base::Memory;
+use dq_base::{ALL_BYTES, MOST_CELLS, Memory};
 use dq_extract::{Segment, SegmentList};
 use std::alloc::Global;
 use std::sync::Arc;
-
-/// The most bytes of all files of publish steps.
-const ALL_BYTES: u64 = 268435456;
-
-/// The most cells of all rows.
-const CELLS: u64 = 8388608;
 
 /// The segments that are loaded so far, and how many bytes and cells are left for those to come.
 #[derive(Drop)]
@@ -27,10 +21,11 @@ pub struct Progress {
 pub fn begun(alloc: Global) -> Progress
     ensures begun { result ≡ record { left = all_room; cells = cell_room; segments = [] } }
     ensures progress { (schemas : ListOf Heading) → IsProgress schemas [] result }
+    ensures within { IsWithin result }
 {
     Progress {
         left: ALL_BYTES,
-        cells: CELLS,
+        cells: MOST_CELLS,
         segments: SegmentList::new(alloc),
     }
 }
@@ -44,7 +39,9 @@ pub fn with_segment(
 ) -> Result<Progress, Memory>
     requires bytes { bytes ≤ progress.left }
     requires cells { cells_of segment ≤ progress.cells }
+    requires within { IsWithin progress }
     ensures next { IfOk result (λ next. next ≡ with_version progress bytes segment) }
+    ensures within { IfOk result IsWithin }
     ensures progress { (schemas : ListOf Heading) (sources : ListOf ℕ) (source : ℕ)
         → slice_get schemas source ≡ Some segment.heading → IsProgress schemas sources progress
         → IfOk result (IsProgress schemas (sources ++ source ∷ [])) }

@@ -6,13 +6,14 @@ ghost use Rattle.dq_outside.specs.Reads.{Files};
 ghost use Rattle.dq_rehearse.specs.Follows.{Follows};
 ghost use Rattle.dq_report.specs.Report.{report_text};
 ghost use Rattle.dq_top.specs.Loading.{Loads, loaded_of};
-ghost use Rattle.dq_top.specs.Outcomes.{AnswersFiles, AreRight, IsOfPlay, IsServed, IsWhole, ReadCause, Writes, any_invalid, any_wanting, loaded_files, status_of};
+ghost use Rattle.dq_top.specs.Outcomes.{AnswersFiles, AreRight, IsOfPlay, IsServed, IsWhole, IsUntouched, ReadCause, TakenCause, Writes, any_invalid, any_wanting, loaded_files, status_of};
 ghost use Rattle.dq_top.specs.Words.{script_name};
 
 use crate::fault::Fault;
 use crate::loading::load_script;
 use crate::outcome::{Outcome, refused, status, told_of};
 use crate::refusals;
+use crate::showing::show;
 use crate::words::find_script;
 use dq_base::{Memory, Texts};
 use dq_extract::Loaded;
@@ -23,17 +24,17 @@ use std::alloc::Global;
 use std::sync::Arc;
 
 /// Plays what was loaded, and writes the report.
-fn run<S: Sink>(alloc: Global, loaded: Loaded, sink: &mut S) -> Outcome
-    ensures status { result.status ≡ status_of result.told result.results }
+fn play_loaded<S: Sink>(alloc: Global, loaded: Loaded, sink: &mut S) -> Outcome
+    ensures status { result.status ≡ status_of result.told result.shown }
     ensures told { IsOfPlay result.told }
     ensures whole { IsWhole result.told (loaded_files result.loaded) }
     ensures loaded { IfSome result.loaded (λ owner. arc_value owner ≡ loaded) }
-    ensures right { AreRight (loaded_files result.loaded) result.journal.entries result.results }
+    ensures right { AreRight (loaded_files result.loaded) result.journal.entries result.results result.shown }
     ensures follows { IfSome result.loaded (λ owner. Follows (arc_value owner) result.journal.entries result.results) }
-    ensures writes { Writes (S.written sink.old) (S.written sink.new) (report_text result.journal.entries result.results) (loaded_files result.loaded) result.told }
+    ensures writes { Writes (S.written sink.old) (S.written sink.new) (report_text result.journal.entries result.shown) (loaded_files result.loaded) result.told }
     ensures later { S.faults sink.old ≤ S.faults sink.new }
     ensures cause { result.told ≡ Some Fault.Write → Rose (S.faults sink.old) (S.faults sink.new) }
-    ensures served { result.told ≡ None → any_wanting result.results ≡ false }
+    ensures served { result.told ≡ None → any_wanting result.shown ≡ false }
 {
     let Ok(owner) = Arc::new(alloc, loaded) else {
         return refused(alloc, Fault::Memory);
@@ -42,14 +43,18 @@ fn run<S: Sink>(alloc: Global, loaded: Loaded, sink: &mut S) -> Outcome
         return refused(alloc, Fault::Memory);
     };
     let Whole { journal, results } = whole;
-    let wanting = refusals::any_wanting(&results);
-    let told = told_of(wanting, write(alloc, &journal, &results, sink));
+    let Ok(shown) = show(alloc, &owner, &results) else {
+        return refused(alloc, Fault::Memory);
+    };
+    let wanting = refusals::any_wanting(&shown);
+    let told = told_of(wanting, write(alloc, &journal, &shown, sink));
     Outcome {
-        status: status(&told, &results),
+        status: status(&told, &shown),
         told,
         loaded: Some(owner),
         journal,
         results,
+        shown,
     }
 }
 
@@ -64,24 +69,26 @@ pub fn rehearse<F: Folder, S: Sink>(
     sink: &mut S,
 ) -> Outcome
     // The status is that of what is told, or of what was refused; nothing was refused for memory where nothing is told.
-    ensures status { result.status ≡ status_of result.told result.results }
-    ensures served { result.told ≡ None → any_wanting result.results ≡ false }
+    ensures status { result.status ≡ status_of result.told result.shown }
+    ensures served { result.told ≡ None → any_wanting result.shown ≡ false }
 
-    // Where the run began, the results are right for what was loaded and for the journal, and the journal follows the script's
-    // schedule; else there are none.
+    // Where the run began, the journal is legal and follows the script's schedule, the results are right for what was loaded
+    // and for the journal, and the blends are shown of them; else there are none.
     ensures whole { IsWhole result.told (loaded_files result.loaded) }
-    ensures right { AreRight (loaded_files result.loaded) result.journal.entries result.results }
+    ensures right { AreRight (loaded_files result.loaded) result.journal.entries result.results result.shown }
     ensures follows { IfSome result.loaded (λ owner. Follows (arc_value owner) result.journal.entries result.results) }
 
     // What was loaded is what the files load to, and what was written is the report, or a prefix of it.
     ensures loaded { IfSome result.loaded (λ owner. IfSome (F.files folder.old) (λ files. IfSome (script_name words.now) (λ name. loaded_of files name ≡ Loads (arc_value owner)))) }
-    ensures writes { Writes (S.written sink.old) (S.written sink.new) (report_text result.journal.entries result.results) (loaded_files result.loaded) result.told }
+    ensures writes { Writes (S.written sink.old) (S.written sink.new) (report_text result.journal.entries result.shown) (loaded_files result.loaded) result.told }
 
     // When each answer comes.
     ensures usage { (result.told ≡ Some Fault.Usage) ↔ (script_name words.now ≡ None) }
     ensures files { IfSome (F.files folder.old) (λ files. IfSome (script_name words.now) (λ name. AnswersFiles files name result.told)) }
     ensures read { ReadCause (F.faults folder.old) (F.faults folder.new) (F.last_fault folder.new) result.told }
     ensures write { result.told ≡ Some Fault.Write → Rose (S.faults sink.old) (S.faults sink.new) }
+    ensures limit { TakenCause (F.taken folder.old) (F.taken folder.new) result.told }
+    ensures untouched { IsUntouched result.told folder.old folder.new sink.old sink.new }
 
     // Where the files load and no count rises, all is answered but for want of memory: 1 exactly where some zone isn't valid.
     ensures complete { (name : ListOf ℕ) (files : Files) (l : LoadedFiles)
@@ -93,7 +100,7 @@ pub fn rehearse<F: Folder, S: Sink>(
         return refused(alloc, Fault::Usage);
     };
     match load_script(alloc, name, folder) {
-        Ok(loaded) => run(alloc, loaded, sink),
+        Ok(loaded) => play_loaded(alloc, loaded, sink),
         Err(fault) => refused(alloc, fault),
     }
 }

@@ -1,7 +1,9 @@
 // What runs write and tell, from the format's texts.
 use crate::{Fault, Outcome, rehearse, tell};
-use dq_base::{List, Numbers64, Text, Texts};
+use dq_base::{Limit, List, Numbers64, Text, Texts};
+use dq_extract::LoadFault;
 use dq_outside::{Folder, MemFolder, MemSink, NamedFile, NamedFiles, SureFolder, SureSink};
+use dq_script::ScriptFault;
 use std::alloc::Global;
 use std::process::Abort;
 
@@ -55,7 +57,7 @@ null 4 1
 "#;
 
 // The zones, the file, the status, and the report from the number of zones on.
-const RUNS: [(&str, &str, u8, &str); 12] = [
+const RUNS: [(&str, &str, u8, &str); 13] = [
     (ZONES, SALES, 0, ANSWERED),
     (ZONES, MARKED_SALES, 0, ANSWERED),
     (ZONES, NO_SALES, 0, "1\nzone 1 rows 0\n"),
@@ -171,6 +173,24 @@ zone 2 rows 2
 "West" 2
 "#,
     ),
+    (
+        r#"{"source":"sales","by":[["band","amount",5]],"show":[["rows"]]},{"source":"sales","by":[["band","amount",10]],"show":[["rows"]]},{"source":"sales","by":[["band","region",2]]},{"source":"sales","by":["year",["band","year",1]]}"#,
+        SALES,
+        1,
+        "4
+zone 1 rows 4
+null 1
+0 1
+1 2
+2 1
+zone 2 rows 3
+null 1
+0 3
+1 1
+zone 3 invalid sort
+zone 4 invalid repeated
+",
+    ),
 ];
 
 // Files that sessions publish beside the sales.
@@ -194,8 +214,71 @@ const APPENDED: &str =
 const TURNS: &str =
     r#"{"form":1,"extracts":[{"name":"sales","columns":[["region","text"],["year","whole"],["amount","whole"]]}],"lanes":[[{"publish":"sales","how":"replace","file":"sales.csv"},{"batch":[{"source":"sales","by":["region"],"show":[["rows"]]}]}],[{"publish":"sales","how":"replace","file":"next.csv"},{"publish":"sales","how":"append","file":"more.csv"},{"batch":[{"source":"sales","by":["region"],"show":[["rows"]]}]}],[{"batch":[{"source":"sales","by":["colour"],"show":[["rows"]]}]},{"publish":"sales","how":"replace","file":"sales.csv"}]],"schedule":[3,2,2,1,2]}"#;
 
+// Two sessions, of which the second sees the rows of one region alone.
+const FILTERED_SESSION: &str =
+    r#"{"form":2,"extracts":[{"name":"sales","columns":[["region","text"],["year","whole"],["amount","whole"]]}],"lanes":[[{"publish":"sales","how":"replace","file":"sales.csv"},{"batch":[{"source":"sales","by":["region"],"show":[["rows"]]}]}],[{"batch":[{"source":"sales","by":["region"],"show":[["rows"]]}]}]],"schedule":[1,1,1,1,1],"sessions":[{"lane":2,"source":"sales","filters":[{"column":"region","among":["East"]}]}]}"#;
+
+// Three dashboards of two zones that are blended: by region, with a total, and with a query that isn't valid.
+const BLENDED: &str =
+    r#"{"form":2,"extracts":[{"name":"sales","columns":[["region","text"],["year","whole"],["amount","whole"]]}],"lanes":[[{"publish":"sales","how":"replace","file":"sales.csv"},{"batch":[{"blend":[{"source":"sales","by":["region"],"show":[["sum","amount"]]},{"source":"sales","filters":[{"column":"year","among":[2020]}],"by":["region"],"show":[["rows"]]}]}]},{"batch":[{"source":"sales","show":[["rows"]]},{"blend":[{"source":"sales","by":["region"],"show":[["sum","amount"]]},{"source":"sales","filters":[{"column":"year","among":[2020]}],"show":[["rows"]]}]},{"source":"sales","show":[["count","amount"]]}]},{"batch":[{"blend":[{"source":"sales","by":["region"]},{"source":"sales","filters":[{"column":"colour","among":[]}],"by":["region"]}]}]}]]}"#;
+
 // Scripts of sessions, with their statuses and reports.
-const PLAYS: [(&str, u8, &str); 3] = [
+const PLAYS: [(&str, u8, &str); 5] = [
+    (
+        FILTERED_SESSION,
+        0,
+        r#"report 1
+lanes 2
+entries 5
+1 publish lane 1 step 1
+2 admit lane 1 step 2 met
+3 end lane 1
+4 admit lane 2 step 1 met
+5 end lane 2
+lane 1 steps 2
+step 1 published 1
+step 2 admitted 2 zones 1
+zone 1 rows 3
+null 1
+"East" 2
+"West" 2
+lane 2 steps 1
+step 1 admitted 4 zones 1
+zone 1 rows 1
+"East" 2
+"#,
+    ),
+    (
+        BLENDED,
+        1,
+        r#"report 1
+lanes 1
+entries 5
+1 publish lane 1 step 1
+2 admit lane 1 step 2 met
+3 admit lane 1 step 3 met
+4 admit lane 1 step 4 met
+5 end lane 1
+lane 1 steps 4
+step 1 published 1
+step 2 admitted 2 zones 1
+zone 1 rows 3
+null 4 null
+"East" 15 1
+"West" 7 1
+step 3 admitted 3 zones 3
+zone 1 rows 1
+5
+zone 2 rows 3
+null 4 2
+"East" 15 2
+"West" 7 2
+zone 3 rows 1
+4
+step 4 admitted 4 zones 1
+zone 1 invalid column
+"#,
+    ),
     (
         SESSIONS,
         0,
@@ -393,41 +476,125 @@ zone 1 rows 0
     ),
 ];
 
-// What stands in the script, what stands in its place, and whether that is built; it is then answered as the script.
-const CHANGES: [(&str, &str, bool); 19] = [
-    ("]}]]}", r#"]}]],"schedule":[]}"#, true),
-    ("]}]]}", r#"]}]],"schedule":[1]}"#, true),
-    ("]}]]}", r#"]}]],"literal":1,"clever":4096}"#, true),
-    ("]}]]}", r#"]}]],"literal":4097}"#, false),
-    ("]}]]}", r#"]}]],"faults":[{"lane":1,"dials":[]}]}"#, true),
-    ("]}]]}", r#"]}]],"faults":[{"lane":1,"dials":[1]}]}"#, false),
-    ("]}]]}", r#"]}]],"faults":[{"lane":1,"links":[0]}]}"#, false),
-    ("]}]]}", r#"]}]],"faults":[{"lane":2}]}"#, false),
-    ("]}]]}", r#"]}]],"rows":[]}"#, false),
-    ("]}]]}", "]}", false),
-    (r#""form":1"#, r#""form":2"#, false),
+// What stands in the script, and what in its place; it is then answered as the script.
+const SAME: [(&str, &str); 9] = [
+    ("]}]]}", r#"]}]],"schedule":[]}"#),
+    ("]}]]}", r#"]}]],"schedule":[1]}"#),
+    ("]}]]}", r#"]}]],"literal":1,"clever":4096}"#),
+    ("]}]]}", r#"]}]],"faults":[{"lane":1,"dials":[]}]}"#),
+    (r#""form":1"#, r#""form":2"#),
     (
         r#""extracts":["#,
         r#""extracts":[{"name":"costs","columns":[["cost","whole"]]},"#,
-        true,
     ),
-    (r#""publish":"sales""#, r#""publish":"costs""#, false),
-    (r#""replace""#, r#""append""#, true),
-    (r#"[["sum","amount"],["rows"]]"#, "[[]]", false),
-    (r#""by":["region"]"#, r#""by":"region""#, false),
-    (r#""by""#, r#""order":[],"filters":[],"by""#, true),
-    (r#""by""#, r#""top":3,"by""#, true),
-    (r#""by""#, r#""top":-1,"by""#, false),
+    (r#""replace""#, r#""append""#),
+    (r#""by""#, r#""order":[],"filters":[],"by""#),
+    (r#""by""#, r#""top":3,"by""#),
 ];
 
-// Files that aren't built.
-const WRONG_FILES: [&str; 6] = [
-    "",
-    "region,year\nEast,2020\n",
-    "region,amount,year\nEast,2020,10\n",
-    "region,year,amount\nEast,2020,10\nEast,2021,5\nEast,2020\nWest,2021,\n,2021,4\n",
-    "region,year,amount\nEast,2020,10\nEast,2021,12x\n",
-    "region,year,amount\nEast,9223372036854775808,1\n",
+// What stands in the script, what in its place, and the status and the line with which that is refused.
+const REFUSED: [(&str, &str, u8, &str); 14] = [
+    ("]}]]}", "]}", 4, "dashboards: row.json: not json"),
+    (
+        "]}]]}",
+        r#"]}]],"rows":[]}"#,
+        4,
+        "dashboards: row.json: shape /rows",
+    ),
+    (
+        r#""form":1"#,
+        r#""form":3"#,
+        4,
+        "dashboards: row.json: shape /form",
+    ),
+    (
+        r#"[["sum","amount"],["rows"]]"#,
+        "[[]]",
+        4,
+        "dashboards: row.json: shape /lanes/0/1/batch/0/show/0",
+    ),
+    (
+        r#""by":["region"]"#,
+        r#""by":"region""#,
+        4,
+        "dashboards: row.json: shape /lanes/0/1/batch/0/by",
+    ),
+    (
+        r#""by":["region"]"#,
+        r#""by":["region",["band","year",0]]"#,
+        4,
+        "dashboards: row.json: shape /lanes/0/1/batch/0/by/1/2",
+    ),
+    (
+        r#""by""#,
+        r#""top":-1,"by""#,
+        4,
+        "dashboards: row.json: shape /lanes/0/1/batch/0/top",
+    ),
+    (
+        r#""publish":"sales""#,
+        r#""publish":"costs""#,
+        4,
+        "dashboards: row.json: unknown extract /lanes/0/0/publish",
+    ),
+    (
+        "]}]]}",
+        r#"]}]],"schedule":[2]}"#,
+        4,
+        "dashboards: row.json: unknown lane /schedule/0",
+    ),
+    (
+        "]}]]}",
+        r#"]}]],"faults":[{"lane":2}]}"#,
+        4,
+        "dashboards: row.json: unknown lane /faults/0/lane",
+    ),
+    (
+        "]}]]}",
+        r#"]}]],"literal":4097}"#,
+        7,
+        "dashboards: limit capacity 4097",
+    ),
+    (
+        r#""form":1"#,
+        r#""form":2,"clever":4194305"#,
+        7,
+        "dashboards: limit capacity 4194305",
+    ),
+    (
+        "]}]]}",
+        r#"]}]],"faults":[{"lane":1,"dials":[1]}]}"#,
+        8,
+        "dashboards: row.json: not built",
+    ),
+    (
+        "]}]]}",
+        r#"]}]],"faults":[{"lane":1,"links":[0]}]}"#,
+        8,
+        "dashboards: row.json: not built",
+    ),
+];
+
+// Files without rows, and what is told of them.
+const WRONG_FILES: [(&str, &str); 6] = [
+    ("", "dashboards: sales.csv: header"),
+    ("region,year\nEast,2020\n", "dashboards: sales.csv: header"),
+    (
+        "region,amount,year\nEast,2020,10\n",
+        "dashboards: sales.csv: header",
+    ),
+    (
+        "region,year,amount\nEast,2020,10\nEast,2021,5\nEast,2020\nWest,2021,\n,2021,4\n",
+        "dashboards: sales.csv: width 3",
+    ),
+    (
+        "region,year,amount\nEast,2020,10\nEast,2021,12x\n",
+        "dashboards: sales.csv: number 2 3",
+    ),
+    (
+        "region,year,amount\nEast,9223372036854775808,1\n",
+        "dashboards: sales.csv: number 1 2",
+    ),
 ];
 
 // A zone, a filter that keeps all, and what the report says of zone 64.
@@ -529,6 +696,7 @@ fn check_refused(rt: &impl Abort, alloc: Global, outcome: &Outcome, status: u8, 
     assert!(rt; outcome.loaded.is_none(), "{line}");
     assert_eq!(rt; outcome.journal.len(), 0, "{line}");
     assert_eq!(rt; outcome.results.len(), 0, "{line}");
+    assert_eq!(rt; outcome.shown.len(), 0, "{line}");
 }
 
 /// The report is written, from the number of zones on with this text, and with this status.
@@ -561,10 +729,10 @@ fn check_play(rt: &impl Abort, alloc: Global, script: &str, status: u8, report: 
     assert!(rt; outcome.loaded.is_some(), "{script}");
 }
 
-/// The script isn't built.
-fn check_unbuilt(rt: &impl Abort, alloc: Global, script: &str) {
+/// The script is refused, with this status and line.
+fn check_script(rt: &impl Abort, alloc: Global, script: &str, status: u8, line: &str) {
     let mut folder = SureFolder::new(both(rt, alloc, script, SALES));
-    check_files(rt, alloc, &mut folder, 8, "dashboards: row.json: not built");
+    check_files(rt, alloc, &mut folder, status, line);
 }
 
 /// These words are refused, and nothing is written.
@@ -627,7 +795,7 @@ fn zones_and_filters_are_counted(rt: HostRuntime) {
     let most = with_zones(&rt, alloc, 63);
     check_report(&rt, alloc, most.as_str(), SALES, 0, rest.as_str());
     let more = with_zones(&rt, alloc, 64);
-    check_unbuilt(&rt, alloc, more.as_str());
+    check_script(&rt, alloc, more.as_str(), 7, "dashboards: limit zones 65");
     let long = with_filters(&rt, alloc, 15);
     check_report(&rt, alloc, long.as_str(), SALES, 0, ANSWERED);
     let longer = with_filters(&rt, alloc, 16);
@@ -645,7 +813,7 @@ fn zones_and_filters_are_counted(rt: HostRuntime) {
 fn report_is_written(rt: HostRuntime) {
     let alloc = rt.alloc();
     let mut folder = MemFolder::new(both(&rt, alloc, SCRIPT, SALES), Numbers64::new(alloc));
-    let mut sink = MemSink::new(alloc, Numbers64::new(alloc));
+    let mut sink = MemSink::short(alloc, Numbers64::new(alloc), 1);
     let given = words(&rt, alloc, &["rehearse", "row.json"]);
     let outcome = rehearse(alloc, &given, &mut folder, &mut sink);
     let report = format!(in alloc; "{BEGUN}{ANSWERED}")
@@ -696,27 +864,43 @@ fn files_are_unread(rt: HostRuntime) {
 }
 
 #[test]
-fn files_are_unbuilt(rt: HostRuntime) {
+fn scripts_are_refused(rt: HostRuntime) {
     let alloc = rt.alloc();
-    for (old, new, built) in CHANGES {
+    for (old, new) in SAME {
         let script = changed(&rt, alloc, old, new);
-        if built {
-            check_report(&rt, alloc, script.as_str(), SALES, 0, ANSWERED);
-        } else {
-            check_unbuilt(&rt, alloc, script.as_str());
-        }
+        check_report(&rt, alloc, script.as_str(), SALES, 0, ANSWERED);
     }
-    check_unbuilt(&rt, alloc, &SCRIPT[..100]);
-    for sales in WRONG_FILES {
+    for (old, new, status, line) in REFUSED {
+        let script = changed(&rt, alloc, old, new);
+        check_script(&rt, alloc, script.as_str(), status, line);
+    }
+    check_script(
+        &rt,
+        alloc,
+        &SCRIPT[..100],
+        4,
+        "dashboards: row.json: not json",
+    );
+}
+
+#[test]
+fn files_are_refused(rt: HostRuntime) {
+    let alloc = rt.alloc();
+    for (sales, line) in WRONG_FILES {
         let mut folder = SureFolder::new(both(&rt, alloc, SCRIPT, sales));
-        check_files(
-            &rt,
-            alloc,
-            &mut folder,
-            8,
-            "dashboards: sales.csv: not built",
-        );
+        check_files(&rt, alloc, &mut folder, 4, line);
     }
+    let long = Text::from_vec(vec![in alloc; 32; 16777217].ok().expect(&rt, "memory"));
+    let mut files = NamedFiles::new(alloc);
+    add(&rt, alloc, &mut files, b"row.json", long.bytes());
+    let mut folder = SureFolder::new(files);
+    check_files(
+        &rt,
+        alloc,
+        &mut folder,
+        7,
+        "dashboards: limit script bytes 16777216",
+    );
 }
 
 #[test]
@@ -726,15 +910,43 @@ fn report_is_unwritten(rt: HostRuntime) {
     check_unwritten(&rt, alloc, &mut closed, b"");
     let mut short = MemSink::short(alloc, numbers(&rt, alloc, &[3]), 10);
     check_unwritten(&rt, alloc, &mut short, b"report 1\nlanes 1\nent");
+    let mut shortest = MemSink::short(alloc, numbers(&rt, alloc, &[2]), 1);
+    check_unwritten(&rt, alloc, &mut shortest, b"r");
 }
 
+// Faults that a run tells otherwise, with their statuses and lines.
 #[test]
-fn want_of_memory_is_told(rt: HostRuntime) {
-    check_told(
-        &rt,
-        rt.alloc(),
-        &Fault::Memory,
-        6,
-        "dashboards: out of memory",
-    );
+fn faults_are_told(rt: HostRuntime) {
+    let alloc = rt.alloc();
+    let name = || text(&rt, alloc, b"f");
+    for (fault, status, line) in [
+        (Fault::Memory, 6, "dashboards: out of memory"),
+        (
+            Fault::Script(name(), ScriptFault::Memory),
+            6,
+            "dashboards: out of memory",
+        ),
+        (
+            Fault::File(name(), LoadFault::TooManyCells),
+            7,
+            "dashboards: limit cells 8388608",
+        ),
+        (
+            Fault::File(name(), LoadFault::NotText(3, 1)),
+            4,
+            "dashboards: f: not text 3 1",
+        ),
+        (
+            Fault::Script(name(), ScriptFault::Limit(Limit::SessionItems, 257)),
+            7,
+            "dashboards: limit session items 257",
+        ),
+        (
+            Fault::Limit(Limit::ReportBytes, 268435456),
+            7,
+            "dashboards: limit report bytes 268435456",
+        ),
+    ] {
+        check_told(&rt, alloc, &fault, status, line);
+    }
 }

@@ -18,10 +18,11 @@ pub loop-steps-preserved : goal.loop-steps-preserved
 loop-steps-preserved g c = (
   c.load_lane.ensures.kept ∙ c.loop-steps.invariant.0,
   omega (arith, c.loop-steps.invariant.1, c.load_lane.ensures.later),
-  c.in-Ok.ensures.cells,
+  c.in-Ok.ensures.within,
   Reached-more (λ steps. flat_map (publication_in c.args.schemas.now) steps) (λ steps. flat_map source_in steps) c.args.schemas.now (g.F.Folder.files c.args.folder.now) nothing c.args.lanes.now
       c.loop-steps.steps-index c.as_slice.result.now c.steps-item.result c.loop-steps.so_far c.in-Ok.next (g.F.Folder.files c.loop-steps.folder)
       c.loop-steps-test.true (c.as_slice.ensures ∙ c.steps-item.is) c.loop-steps.invariant.0 c.loop-steps.invariant.3 c.in-Ok.ensures.told c.in-Ok.ensures.progress,
+  λ start from. c.in-Ok.ensures.taken start (c.loop-steps.invariant.4 start from),
 )
 
 pub returns-clause-progress : goal.returns-clause-progress
@@ -30,3 +31,6 @@ returns-clause-progress g c =
     progress_all (λ steps. flat_map (publication_in c.args.schemas.now) steps) (λ steps. flat_map source_in steps) c.args.schemas.now (g.F.Folder.files c.args.folder.now) nothing c.args.lanes.now
     c.loop-steps.steps-index c.loop-steps.so_far c.loop-steps-test.false c.loop-steps.invariant.3
     (subst P c.begun-so_far.ensures.begun (c.begun-so_far.ensures.progress c.args.schemas.now))
+
+pub returns-in-Err-clause-taken : goal.returns-in-Err-clause-taken
+returns-in-Err-clause-taken g c = λ start from. c.in-Err.ensures.taken start (c.loop-steps.invariant.4 start from)

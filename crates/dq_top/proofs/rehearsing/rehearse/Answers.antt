@@ -10,7 +10,7 @@ returns-in-Ok-clause-complete g c =
     λ name files l words held loads quiet calm.
     let named = c.in-Some.ensures ∙ ap script_name c.as_slice.ensures ∙ words in
     let same = loaded_is (g.F.Folder.files c.args.folder.now) files c.in-Some.name.now name l c.in-Ok.loaded held named loads c.in-Ok.ensures.told in
-    subst (λ (k : LoadedFiles). IsServed (any_invalid k.script) c.run.result.status) same
-    (all_answered c.in-Ok.loaded c.run.result.told c.run.result.loaded c.run.result.journal.entries c.run.result.results c.run.result.status
-    (g.S.Sink.faults c.args.sink.now) (g.S.Sink.faults c.run.new.sink)
-    c.run.ensures.told c.run.ensures.whole c.run.ensures.loaded c.run.ensures.right c.run.ensures.status c.run.ensures.cause calm)
+    subst (λ (k : LoadedFiles). IsServed (any_invalid k.script) c.play_loaded.result.status) same
+    (all_answered c.in-Ok.loaded c.play_loaded.result.told c.play_loaded.result.loaded c.play_loaded.result.journal.entries c.play_loaded.result.results c.play_loaded.result.shown c.play_loaded.result.status
+    (g.S.Sink.faults c.args.sink.now) (g.S.Sink.faults c.play_loaded.new.sink)
+    c.play_loaded.ensures.told c.play_loaded.ensures.whole c.play_loaded.ensures.loaded c.play_loaded.ensures.right c.play_loaded.ensures.status c.play_loaded.ensures.served c.play_loaded.ensures.cause calm)

@@ -1,6 +1,6 @@
 use Rattle.std.specs.Arc.{arc_value}
 use Rattle.dq_top.proofs.Fine.{writes_told}
-use Rattle.dq_top.proofs.rehearsing.run.Goals as goal
+use Rattle.dq_top.proofs.rehearsing.play_loaded.Goals as goal
 
 pub returns-clause-writes : goal.returns-clause-writes
 returns-clause-writes g c =
