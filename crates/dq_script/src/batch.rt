@@ -1,7 +1,7 @@
 ghost use Rattle.std.specs.Prelude.{◌≡◌, [], map, IfOk};
 ghost use Rattle.serde_json.specs.View.{view};
 ghost use Rattle.dq_script.specs.Readings.{Answers, within, given};
-ghost use Rattle.dq_script.specs.Batches.{key_of, link_of, links_of, links_between, pair_parts, pair_of, blend_of, no_zones, with_zone, with_pair, is_blend, next_zone, batch_of};
+ghost use Rattle.dq_script.specs.Batches.{key_of, link_of, links_of, links_between, pair_of, blend_of, no_zones, with_zone, with_pair, is_blend, next_zone, batch_of};
 ghost use Rattle.std.specs.Fmt.{decimal};
 
 use crate::arrays::{Takes, take_array};

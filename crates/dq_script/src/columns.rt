@@ -1,4 +1,4 @@
-ghost use Rattle.std.specs.Prelude.{◌≡◌, ◌++◌, ◌∷◌, [], IfOk};
+ghost use Rattle.std.specs.Prelude.{◌≡◌, IfOk};
 ghost use Rattle.serde_json.specs.View.{view};
 ghost use Rattle.dq_script.specs.Readings.{Answers, given};
 ghost use Rattle.dq_script.specs.Columns.{sort_of, column_of, with_column, next_column, no_columns, columns_of};

@@ -1,4 +1,4 @@
-ghost use Rattle.std.specs.Prelude.{◌≡◌, [], IfOk};
+ghost use Rattle.std.specs.Prelude.{◌≡◌, IfOk};
 ghost use Rattle.serde_json.specs.View.{view};
 ghost use Rattle.dq_script.specs.Readings.{Answers};
 ghost use Rattle.dq_script.specs.Faults.{whole_from, new_lane, fault_of, with_fault, next_fault, faults_of};

@@ -1,5 +1,4 @@
 ghost use Rattle.std.specs.Prelude.{◌≡◌, ◌≤◌, length};
-ghost use Rattle.serde_json.specs.View.{view};
 ghost use Rattle.dq_script.specs.Filters.{column_in};
 ghost use Rattle.dq_script.specs.Parts.{place_in};
 

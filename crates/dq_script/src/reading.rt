@@ -1,7 +1,6 @@
-ghost use Rattle.std.specs.Prelude.{◌≡◌, None, Some, IfOk};
+ghost use Rattle.std.specs.Prelude.{Some, IfOk};
 ghost use Rattle.serde_json.specs.View.{view};
 ghost use Rattle.dq_base.specs.Scripts.{IsScript};
-ghost use Rattle.dq_script.specs.Drafts.{draft_of};
 ghost use Rattle.dq_script.specs.Reasons.{stray_name, reason_against};
 ghost use Rattle.dq_script.specs.Scripts.{script_in, script_of, AnswersScript, AnswersReason};
 

@@ -1,4 +1,4 @@
-ghost use Rattle.std.specs.Prelude.{◌≡◌, ◌∷◌, ◌++◌, Option, IfOk, codes};
+ghost use Rattle.std.specs.Prelude.{◌≡◌, Option, IfOk};
 ghost use Rattle.dq_script.specs.Reasons.{found_in, unless, stray_publish, stray_steps, stray_source, stray_turn, stray_fault, stray_session, found_at, stray_extract, stray_lane};
 
 use crate::draft::Plan;

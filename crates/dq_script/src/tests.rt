@@ -1,34 +1,39 @@
 use super::*;
-use dq_base::{Bound, How, Limit, Measure, OrderKey, Predicate, Query, Script, Step, Test, Text};
+use dq_base::{
+    Bound, How, Limit, Measure, Memory, OrderKey, Predicate, Query, Script, Step, Test, Text,
+};
 use std::alloc::{AllocError, Global};
 use std::test::Fail;
 
-// What is told of a script.
-#[derive(Clone, Copy)]
-enum Told {
-    Read,
-    NotJson,
-    Shape(&'static str),
-    Limit(Limit, u64),
-    Extract(&'static str),
-    Lane(&'static str),
+// What is told of a script: the fault in words, with its path or its limit and number.
+fn told_of(alloc: Global, answer: &Result<Script, ScriptFault>) -> Result<String, AllocError> {
+    match answer {
+        Ok(_) => format!(in alloc; "read"),
+        Err(ScriptFault::Limit(limit, value)) => format!(in alloc; "limit {limit:?} {value}"),
+        Err(fault) => format!(in alloc; "{fault}"),
+    }
 }
 
-// Whether this is what is told.
-fn tells(answer: &Result<Script, ScriptFault>, told: Told) -> bool {
-    match (answer, told) {
-        (Ok(_), Told::Read) => true,
-        (Err(ScriptFault::NotJson), Told::NotJson) => true,
-        (Err(ScriptFault::Shape(path)), Told::Shape(want)) => path.bytes() == want.as_bytes(),
-        (Err(ScriptFault::Limit(limit, value)), Told::Limit(want, number)) => {
-            *limit == want && *value == number
-        }
-        (Err(ScriptFault::UnknownExtract(path)), Told::Extract(want)) => {
-            path.bytes() == want.as_bytes()
-        }
-        (Err(ScriptFault::UnknownLane(path)), Told::Lane(want)) => path.bytes() == want.as_bytes(),
-        _ => false,
+// The path that is told, where one is.
+fn path_of(answer: &Result<Script, ScriptFault>) -> Option<&Text> {
+    match answer {
+        Err(ScriptFault::Shape(path)) => Some(path),
+        Err(ScriptFault::UnknownExtract(path)) => Some(path),
+        Err(ScriptFault::UnknownLane(path)) => Some(path),
+        _ => None,
     }
+}
+
+// Whether this is what is told of these bytes: words, and behind a blank the path.
+fn tells(alloc: Global, bytes: &[u8], told: &str) -> Result<bool, Memory> {
+    let answer = read(alloc, bytes);
+    let words = told_of(alloc, &answer)?;
+    let mut line = Text::copy_of(alloc, words.as_bytes())?;
+    if let Some(path) = path_of(&answer) {
+        line.push(b' ')?;
+        line.append(path.bytes())?;
+    }
+    Ok(line.bytes() == told.as_bytes())
 }
 
 const FIRST: &str =
@@ -38,575 +43,575 @@ const SECOND: &str =
     r#"{"form":2,"extracts":[{"name":"a","columns":[["t","text"],["n","whole"]]}],"clever":9,"lanes":[[],[{"batch":[{"source":"a"},{"blend":[{"source":"a","by":["t",["band","n",5],"t","n"]},{"source":"a","by":[["band","n",5],"t"]}]}]},{"batch":[{"blend":[{"source":"a"},{"source":"a"}]},{"blend":[{"source":"b","by":["x"]},{"source":"a","by":["x"]}]}]}]],"sessions":[{"lane":2,"source":"a","filters":[{"column":"n","between":[1,null]}]},{"lane":1,"source":"a","filters":[{"column":"n","between":[1,null]}]}]}"#;
 
 // Scripts as a whole, and what is told of each.
-const WHOLE: [(&str, Told); 29] = [
-    (r#""#, Told::NotJson),
-    (r#"{"#, Told::NotJson),
-    (r#"1"#, Told::Shape("")),
-    (r#"[]"#, Told::Shape("")),
-    (r#"{}"#, Told::Shape("/form")),
-    (r#"{"form":3}"#, Told::Shape("/form")),
-    (r#"{"form":1.0}"#, Told::Shape("/form")),
-    (r#"{"form":"1"}"#, Told::Shape("/form")),
-    (r#"{"form":0}"#, Told::Shape("/form")),
-    (r#"{"form":1}"#, Told::Shape("/extracts")),
-    (r#"{"form":1,"extracts":[]}"#, Told::Shape("/lanes")),
+const WHOLE: [(&str, &str); 29] = [
+    (r#""#, "not json"),
+    (r#"{"#, "not json"),
+    (r#"1"#, "shape "),
+    (r#"[]"#, "shape "),
+    (r#"{}"#, "shape /form"),
+    (r#"{"form":3}"#, "shape /form"),
+    (r#"{"form":1.0}"#, "shape /form"),
+    (r#"{"form":"1"}"#, "shape /form"),
+    (r#"{"form":0}"#, "shape /form"),
+    (r#"{"form":1}"#, "shape /extracts"),
+    (r#"{"form":1,"extracts":[]}"#, "shape /lanes"),
     (
         r#"{"form":1,"extracts":[{"name":"a"}],"lanes":[]}"#,
-        Told::Shape("/extracts/0/columns"),
+        "shape /extracts/0/columns",
     ),
     (
         r#"{"form":1,"extracts":[],"lanes":[],"zzz":0}"#,
-        Told::Shape("/zzz"),
+        "shape /zzz",
     ),
     (
         r#"{"form":1,"extracts":[],"lanes":[],"zz":0,"a/b~c":0}"#,
-        Told::Shape("/a~1b~0c"),
+        "shape /a~1b~0c",
     ),
     (
         r#"{"form":1,"extracts":[],"lanes":[],"schedule":[0]}"#,
-        Told::Shape("/schedule/0"),
+        "shape /schedule/0",
     ),
     (
         r#"{"form":1,"extracts":[],"lanes":[],"schedule":null}"#,
-        Told::Shape("/schedule"),
+        "shape /schedule",
     ),
     (
         r#"{"form":1,"extracts":[],"lanes":[],"schedule":[1]}"#,
-        Told::Lane("/schedule/0"),
+        "unknown lane /schedule/0",
     ),
     (
         r#"{"form":1,"extracts":[],"lanes":[],"clever":4097}"#,
-        Told::Limit(Limit::Capacity, 4097),
+        "limit Capacity 4097",
     ),
     (
         r#"{"form":1,"extracts":[],"lanes":[],"clever":4097,"literal":4098}"#,
-        Told::Limit(Limit::Capacity, 4098),
+        "limit Capacity 4098",
     ),
     (
         r#"{"form":1,"extracts":[],"lanes":[],"literal":0}"#,
-        Told::Shape("/literal"),
+        "shape /literal",
     ),
     (
         r#"{"form":1,"extracts":[],"lanes":[],"literal":4096}"#,
-        Told::Read,
+        "read",
     ),
     (
         r#"{"form":2,"extracts":[],"lanes":[],"literal":0}"#,
-        Told::Shape("/literal"),
+        "shape /literal",
     ),
     (
         r#"{"form":2,"extracts":[],"lanes":[],"literal":4194304}"#,
-        Told::Read,
+        "read",
     ),
     (
         r#"{"form":2,"extracts":[],"lanes":[],"clever":4194305}"#,
-        Told::Limit(Limit::Capacity, 4194305),
+        "limit Capacity 4194305",
     ),
     (
         r#"{"form":1,"extracts":[],"lanes":[[{"publish":"x","how":"append","file":"f"}]]}"#,
-        Told::Extract("/lanes/0/0/publish"),
+        "unknown extract /lanes/0/0/publish",
     ),
-    (r#"{"form":1,"extracts":[],"lanes":[]}"#, Told::Read),
-    (r#"{"form":2,"extracts":[],"lanes":[]}"#, Told::Read),
+    (r#"{"form":1,"extracts":[],"lanes":[]}"#, "read"),
+    (r#"{"form":2,"extracts":[],"lanes":[]}"#, "read"),
     (
         r#"{"form":1,"form":2,"extracts":[],"lanes":[],"sessions":[]}"#,
-        Told::Read,
+        "read",
     ),
     (
         r#"{"form":1,"extracts":[],"lanes":[],"sessions":[]}"#,
-        Told::Shape("/sessions"),
+        "shape /sessions",
     ),
 ];
 
 // Extracts and faults, and what is told of each.
-const PARTS: [(&str, Told); 17] = [
+const PARTS: [(&str, &str); 17] = [
     (
         r#"{"form":1,"extracts":[1],"lanes":[]}"#,
-        Told::Shape("/extracts/0"),
+        "shape /extracts/0",
     ),
     (
         r#"{"form":1,"extracts":[{"name":"","columns":[]}],"lanes":[]}"#,
-        Told::Shape("/extracts/0/name"),
+        "shape /extracts/0/name",
     ),
     (
         r#"{"form":1,"extracts":[{"name":"a","columns":[]}],"lanes":[]}"#,
-        Told::Shape("/extracts/0/columns"),
+        "shape /extracts/0/columns",
     ),
     (
         r#"{"form":1,"extracts":[{"name":"a","columns":[["c"]]}],"lanes":[]}"#,
-        Told::Shape("/extracts/0/columns/0"),
+        "shape /extracts/0/columns/0",
     ),
     (
         r#"{"form":1,"extracts":[{"name":"a","columns":[["","text"]]}],"lanes":[]}"#,
-        Told::Shape("/extracts/0/columns/0/0"),
+        "shape /extracts/0/columns/0/0",
     ),
     (
         r#"{"form":1,"extracts":[{"name":"a","columns":[["c","number"]]}],"lanes":[]}"#,
-        Told::Shape("/extracts/0/columns/0/1"),
+        "shape /extracts/0/columns/0/1",
     ),
     (
         r#"{"form":1,"extracts":[{"name":"a","columns":[["c","text"],["d","text"],["c","text"]]}],"lanes":[]}"#,
-        Told::Shape("/extracts/0/columns/2/0"),
+        "shape /extracts/0/columns/2/0",
     ),
     (
         r#"{"form":1,"extracts":[{"name":"a","columns":[["c","text"],["n","whole"]]},{"name":"a","columns":[["c","text"],["n","whole"]]}],"lanes":[]}"#,
-        Told::Shape("/extracts/1/name"),
+        "shape /extracts/1/name",
     ),
     (
         r#"{"form":1,"extracts":[{"name":"a","columns":[["c","text"]],"b":1}],"lanes":[]}"#,
-        Told::Shape("/extracts/0/b"),
+        "shape /extracts/0/b",
     ),
     (
         r#"{"form":1,"extracts":[],"lanes":[[],[]],"faults":[{}]}"#,
-        Told::Shape("/faults/0/lane"),
+        "shape /faults/0/lane",
     ),
     (
         r#"{"form":1,"extracts":[],"lanes":[[],[]],"faults":[{"lane":0}]}"#,
-        Told::Shape("/faults/0/lane"),
+        "shape /faults/0/lane",
     ),
     (
         r#"{"form":1,"extracts":[],"lanes":[[],[]],"faults":[{"lane":2},{"lane":1},{"lane":2}]}"#,
-        Told::Shape("/faults/2/lane"),
+        "shape /faults/2/lane",
     ),
     (
         r#"{"form":1,"extracts":[],"lanes":[[],[]],"faults":[{"lane":1,"dials":[1,0]}]}"#,
-        Told::Shape("/faults/0/dials/1"),
+        "shape /faults/0/dials/1",
     ),
     (
         r#"{"form":1,"extracts":[],"lanes":[[],[]],"faults":[{"lane":1,"links":[0,-1]}]}"#,
-        Told::Shape("/faults/0/links/1"),
+        "shape /faults/0/links/1",
     ),
     (
         r#"{"form":1,"extracts":[],"lanes":[[],[]],"faults":[{"lane":1,"dial":1}]}"#,
-        Told::Shape("/faults/0/dial"),
+        "shape /faults/0/dial",
     ),
     (
         r#"{"form":1,"extracts":[],"lanes":[[],[]],"faults":[{"lane":2},{"lane":3}]}"#,
-        Told::Lane("/faults/1/lane"),
+        "unknown lane /faults/1/lane",
     ),
     (
         r#"{"form":1,"extracts":[],"lanes":[[],[]],"faults":[{"lane":2},{"lane":1}]}"#,
-        Told::Read,
+        "read",
     ),
 ];
 
 // Steps, and what is told of each.
-const STEPS: [(&str, Told); 11] = [
+const STEPS: [(&str, &str); 11] = [
     (
         r#"{"form":1,"extracts":[{"name":"a","columns":[["c","text"],["n","whole"]]}],"lanes":[[],[1]]}"#,
-        Told::Shape("/lanes/1/0"),
+        "shape /lanes/1/0",
     ),
     (
         r#"{"form":1,"extracts":[{"name":"a","columns":[["c","text"],["n","whole"]]}],"lanes":[[],[{"how":"append"}]]}"#,
-        Told::Shape("/lanes/1/0"),
+        "shape /lanes/1/0",
     ),
     (
         r#"{"form":1,"extracts":[{"name":"a","columns":[["c","text"],["n","whole"]]}],"lanes":[[],[{"batch":1,"file":1}]]}"#,
-        Told::Shape("/lanes/1/0"),
+        "shape /lanes/1/0",
     ),
     (
         r#"{"form":1,"extracts":[{"name":"a","columns":[["c","text"],["n","whole"]]}],"lanes":[[],[{"publish":1}]]}"#,
-        Told::Shape("/lanes/1/0/publish"),
+        "shape /lanes/1/0/publish",
     ),
     (
         r#"{"form":1,"extracts":[{"name":"a","columns":[["c","text"],["n","whole"]]}],"lanes":[[],[{"publish":"x"}]]}"#,
-        Told::Shape("/lanes/1/0/how"),
+        "shape /lanes/1/0/how",
     ),
     (
         r#"{"form":1,"extracts":[{"name":"a","columns":[["c","text"],["n","whole"]]}],"lanes":[[],[{"publish":"x","how":"merge"}]]}"#,
-        Told::Shape("/lanes/1/0/how"),
+        "shape /lanes/1/0/how",
     ),
     (
         r#"{"form":1,"extracts":[{"name":"a","columns":[["c","text"],["n","whole"]]}],"lanes":[[],[{"publish":"x","how":"append"}]]}"#,
-        Told::Shape("/lanes/1/0/file"),
+        "shape /lanes/1/0/file",
     ),
     (
         r#"{"form":1,"extracts":[{"name":"a","columns":[["c","text"],["n","whole"]]}],"lanes":[[],[{"publish":"x","how":"append","file":""}]]}"#,
-        Told::Shape("/lanes/1/0/file"),
+        "shape /lanes/1/0/file",
     ),
     (
         r#"{"form":1,"extracts":[{"name":"a","columns":[["c","text"],["n","whole"]]}],"lanes":[[],[{"publish":"x","how":"append","file":"f","by":1}]]}"#,
-        Told::Shape("/lanes/1/0/by"),
+        "shape /lanes/1/0/by",
     ),
     (
         r#"{"form":1,"extracts":[{"name":"a","columns":[["c","text"],["n","whole"]]}],"lanes":[[],[{"batch":[],"by":1}]]}"#,
-        Told::Shape("/lanes/1/0/by"),
+        "shape /lanes/1/0/by",
     ),
     (
         r#"{"form":1,"extracts":[{"name":"a","columns":[["c","text"],["n","whole"]]}],"lanes":[[],[{"batch":{}}]]}"#,
-        Told::Shape("/lanes/1/0/batch"),
+        "shape /lanes/1/0/batch",
     ),
 ];
 
 // Zones, and what is told of each.
-const ZONES: [(&str, Told); 32] = [
+const ZONES: [(&str, &str); 32] = [
     (
         r#"{"form":1,"extracts":[{"name":"a","columns":[["c","text"],["n","whole"]]}],"lanes":[[],[{"batch":[[]]}]]}"#,
-        Told::Shape("/lanes/1/0/batch/0"),
+        "shape /lanes/1/0/batch/0",
     ),
     (
         r#"{"form":1,"extracts":[{"name":"a","columns":[["c","text"],["n","whole"]]}],"lanes":[[],[{"batch":[{}]}]]}"#,
-        Told::Shape("/lanes/1/0/batch/0/source"),
+        "shape /lanes/1/0/batch/0/source",
     ),
     (
         r#"{"form":1,"extracts":[{"name":"a","columns":[["c","text"],["n","whole"]]}],"lanes":[[],[{"batch":[{"source":1}]}]]}"#,
-        Told::Shape("/lanes/1/0/batch/0/source"),
+        "shape /lanes/1/0/batch/0/source",
     ),
     (
         r#"{"form":1,"extracts":[{"name":"a","columns":[["c","text"],["n","whole"]]}],"lanes":[[],[{"batch":[{"source":"b"}]}]]}"#,
-        Told::Read,
+        "read",
     ),
     (
         r#"{"form":1,"extracts":[{"name":"a","columns":[["c","text"],["n","whole"]]}],"lanes":[[],[{"batch":[{"source":"a","top":-1,"zap":1}]}]]}"#,
-        Told::Shape("/lanes/1/0/batch/0/top"),
+        "shape /lanes/1/0/batch/0/top",
     ),
     (
         r#"{"form":1,"extracts":[{"name":"a","columns":[["c","text"],["n","whole"]]}],"lanes":[[],[{"batch":[{"source":"a","top":4294967296}]}]]}"#,
-        Told::Shape("/lanes/1/0/batch/0/top"),
+        "shape /lanes/1/0/batch/0/top",
     ),
     (
         r#"{"form":1,"extracts":[{"name":"a","columns":[["c","text"],["n","whole"]]}],"lanes":[[],[{"batch":[{"source":"a","zap":1}]}]]}"#,
-        Told::Shape("/lanes/1/0/batch/0/zap"),
+        "shape /lanes/1/0/batch/0/zap",
     ),
     (
         r#"{"form":1,"extracts":[{"name":"a","columns":[["c","text"],["n","whole"]]}],"lanes":[[],[{"batch":[{"source":"a","order":[[0,"up"],[4294967296,"up"]]}]}]]}"#,
-        Told::Shape("/lanes/1/0/batch/0/order/1/0"),
+        "shape /lanes/1/0/batch/0/order/1/0",
     ),
     (
         r#"{"form":1,"extracts":[{"name":"a","columns":[["c","text"],["n","whole"]]}],"lanes":[[],[{"batch":[{"source":"a","order":[[0,"left"]]}]}]]}"#,
-        Told::Shape("/lanes/1/0/batch/0/order/0/1"),
+        "shape /lanes/1/0/batch/0/order/0/1",
     ),
     (
         r#"{"form":1,"extracts":[{"name":"a","columns":[["c","text"],["n","whole"]]}],"lanes":[[],[{"batch":[{"source":"a","order":[[0]]}]}]]}"#,
-        Told::Shape("/lanes/1/0/batch/0/order/0"),
+        "shape /lanes/1/0/batch/0/order/0",
     ),
     (
         r#"{"form":1,"extracts":[{"name":"a","columns":[["c","text"],["n","whole"]]}],"lanes":[[],[{"batch":[{"source":"a","filters":[{"column":1}]}]}]]}"#,
-        Told::Shape("/lanes/1/0/batch/0/filters/0"),
+        "shape /lanes/1/0/batch/0/filters/0",
     ),
     (
         r#"{"form":1,"extracts":[{"name":"a","columns":[["c","text"],["n","whole"]]}],"lanes":[[],[{"batch":[{"source":"a","filters":[{"among":[],"except":[]}]}]}]]}"#,
-        Told::Shape("/lanes/1/0/batch/0/filters/0"),
+        "shape /lanes/1/0/batch/0/filters/0",
     ),
     (
         r#"{"form":1,"extracts":[{"name":"a","columns":[["c","text"],["n","whole"]]}],"lanes":[[],[{"batch":[{"source":"a","filters":[{"among":[]}]}]}]]}"#,
-        Told::Shape("/lanes/1/0/batch/0/filters/0/column"),
+        "shape /lanes/1/0/batch/0/filters/0/column",
     ),
     (
         r#"{"form":1,"extracts":[{"name":"a","columns":[["c","text"],["n","whole"]]}],"lanes":[[],[{"batch":[{"source":"a","filters":[{"column":"c","among":[null,"x",1.5]}]}]}]]}"#,
-        Told::Shape("/lanes/1/0/batch/0/filters/0/among/2"),
+        "shape /lanes/1/0/batch/0/filters/0/among/2",
     ),
     (
         r#"{"form":1,"extracts":[{"name":"a","columns":[["c","text"],["n","whole"]]}],"lanes":[[],[{"batch":[{"source":"a","filters":[{"column":"c","among":[9223372036854775808]}]}]}]]}"#,
-        Told::Shape("/lanes/1/0/batch/0/filters/0/among/0"),
+        "shape /lanes/1/0/batch/0/filters/0/among/0",
     ),
     (
         r#"{"form":1,"extracts":[{"name":"a","columns":[["c","text"],["n","whole"]]}],"lanes":[[],[{"batch":[{"source":"a","filters":[{"column":"c","among":[9223372036854775807,-9223372036854775808]}]}]}]]}"#,
-        Told::Read,
+        "read",
     ),
     (
         r#"{"form":1,"extracts":[{"name":"a","columns":[["c","text"],["n","whole"]]}],"lanes":[[],[{"batch":[{"source":"a","filters":[{"column":"c","except":1}]}]}]]}"#,
-        Told::Shape("/lanes/1/0/batch/0/filters/0/except"),
+        "shape /lanes/1/0/batch/0/filters/0/except",
     ),
     (
         r#"{"form":1,"extracts":[{"name":"a","columns":[["c","text"],["n","whole"]]}],"lanes":[[],[{"batch":[{"source":"a","filters":[{"column":"c","between":[1]}]}]}]]}"#,
-        Told::Shape("/lanes/1/0/batch/0/filters/0/between"),
+        "shape /lanes/1/0/batch/0/filters/0/between",
     ),
     (
         r#"{"form":1,"extracts":[{"name":"a","columns":[["c","text"],["n","whole"]]}],"lanes":[[],[{"batch":[{"source":"a","filters":[{"column":"c","between":[null,"1"]}]}]}]]}"#,
-        Told::Shape("/lanes/1/0/batch/0/filters/0/between/1"),
+        "shape /lanes/1/0/batch/0/filters/0/between/1",
     ),
     (
         r#"{"form":1,"extracts":[{"name":"a","columns":[["c","text"],["n","whole"]]}],"lanes":[[],[{"batch":[{"source":"a","filters":[{"column":"c","between":[1,2],"a":1}]}]}]]}"#,
-        Told::Shape("/lanes/1/0/batch/0/filters/0/a"),
+        "shape /lanes/1/0/batch/0/filters/0/a",
     ),
     (
         r#"{"form":1,"extracts":[{"name":"a","columns":[["c","text"],["n","whole"]]}],"lanes":[[],[{"batch":[{"source":"a","show":[[]]}]}]]}"#,
-        Told::Shape("/lanes/1/0/batch/0/show/0"),
+        "shape /lanes/1/0/batch/0/show/0",
     ),
     (
         r#"{"form":1,"extracts":[{"name":"a","columns":[["c","text"],["n","whole"]]}],"lanes":[[],[{"batch":[{"source":"a","show":[["mean","c","d"]]}]}]]}"#,
-        Told::Shape("/lanes/1/0/batch/0/show/0/0"),
+        "shape /lanes/1/0/batch/0/show/0/0",
     ),
     (
         r#"{"form":1,"extracts":[{"name":"a","columns":[["c","text"],["n","whole"]]}],"lanes":[[],[{"batch":[{"source":"a","show":[["rows","c"]]}]}]]}"#,
-        Told::Shape("/lanes/1/0/batch/0/show/0"),
+        "shape /lanes/1/0/batch/0/show/0",
     ),
     (
         r#"{"form":1,"extracts":[{"name":"a","columns":[["c","text"],["n","whole"]]}],"lanes":[[],[{"batch":[{"source":"a","show":[["sum"]]}]}]]}"#,
-        Told::Shape("/lanes/1/0/batch/0/show/0"),
+        "shape /lanes/1/0/batch/0/show/0",
     ),
     (
         r#"{"form":1,"extracts":[{"name":"a","columns":[["c","text"],["n","whole"]]}],"lanes":[[],[{"batch":[{"source":"a","show":[["rows"],["sum",1]]}]}]]}"#,
-        Told::Shape("/lanes/1/0/batch/0/show/1/1"),
+        "shape /lanes/1/0/batch/0/show/1/1",
     ),
     (
         r#"{"form":1,"extracts":[{"name":"a","columns":[["c","text"],["n","whole"]]}],"lanes":[[],[{"batch":[{"source":"a","by":[1]}]}]]}"#,
-        Told::Shape("/lanes/1/0/batch/0/by/0"),
+        "shape /lanes/1/0/batch/0/by/0",
     ),
     (
         r#"{"form":1,"extracts":[{"name":"a","columns":[["c","text"],["n","whole"]]}],"lanes":[[],[{"batch":[{"source":"a","by":["c",["band","n"]]}]}]]}"#,
-        Told::Shape("/lanes/1/0/batch/0/by/1"),
+        "shape /lanes/1/0/batch/0/by/1",
     ),
     (
         r#"{"form":1,"extracts":[{"name":"a","columns":[["c","text"],["n","whole"]]}],"lanes":[[],[{"batch":[{"source":"a","by":[["bend","n",2]]}]}]]}"#,
-        Told::Shape("/lanes/1/0/batch/0/by/0/0"),
+        "shape /lanes/1/0/batch/0/by/0/0",
     ),
     (
         r#"{"form":1,"extracts":[{"name":"a","columns":[["c","text"],["n","whole"]]}],"lanes":[[],[{"batch":[{"source":"a","by":[["band",1,2]]}]}]]}"#,
-        Told::Shape("/lanes/1/0/batch/0/by/0/1"),
+        "shape /lanes/1/0/batch/0/by/0/1",
     ),
     (
         r#"{"form":1,"extracts":[{"name":"a","columns":[["c","text"],["n","whole"]]}],"lanes":[[],[{"batch":[{"source":"a","by":[["band","n",0]]}]}]]}"#,
-        Told::Shape("/lanes/1/0/batch/0/by/0/2"),
+        "shape /lanes/1/0/batch/0/by/0/2",
     ),
     (
         r#"{"form":1,"extracts":[{"name":"a","columns":[["c","text"],["n","whole"]]}],"lanes":[[],[{"batch":[{"source":"a","by":[["band","n",4294967296]]}]}]]}"#,
-        Told::Shape("/lanes/1/0/batch/0/by/0/2"),
+        "shape /lanes/1/0/batch/0/by/0/2",
     ),
     (
         r#"{"form":1,"extracts":[{"name":"a","columns":[["c","text"],["n","whole"]]}],"lanes":[[],[{"batch":[{"source":"a","by":[["band","n",4294967295]]}]}]]}"#,
-        Told::Read,
+        "read",
     ),
 ];
 
 // Blends, and what is told of each.
-const PAIRS: [(&str, Told); 12] = [
+const PAIRS: [(&str, &str); 12] = [
     (
         r#"{"form":1,"extracts":[{"name":"a","columns":[["c","text"],["n","whole"]]}],"lanes":[[],[{"batch":[{"blend":[{"source":"a"},{"source":"a"}]}]}]]}"#,
-        Told::Shape("/lanes/1/0/batch/0/source"),
+        "shape /lanes/1/0/batch/0/source",
     ),
     (
         r#"{"form":2,"extracts":[{"name":"a","columns":[["c","text"],["n","whole"]]}],"lanes":[[],[{"batch":[{"blend":[{"source":"a"},{"source":"a"}]}]}]]}"#,
-        Told::Read,
+        "read",
     ),
     (
         r#"{"form":2,"extracts":[{"name":"a","columns":[["c","text"],["n","whole"]]}],"lanes":[[],[{"batch":[{"blend":[{"source":"a"}]}]}]]}"#,
-        Told::Shape("/lanes/1/0/batch/0/blend"),
+        "shape /lanes/1/0/batch/0/blend",
     ),
     (
         r#"{"form":2,"extracts":[{"name":"a","columns":[["c","text"],["n","whole"]]}],"lanes":[[],[{"batch":[{"blend":{}}]}]]}"#,
-        Told::Shape("/lanes/1/0/batch/0/blend"),
+        "shape /lanes/1/0/batch/0/blend",
     ),
     (
         r#"{"form":2,"extracts":[{"name":"a","columns":[["c","text"],["n","whole"]]}],"lanes":[[],[{"batch":[{"blend":[{"blend":[]},1]}]}]]}"#,
-        Told::Shape("/lanes/1/0/batch/0/blend/0/source"),
+        "shape /lanes/1/0/batch/0/blend/0/source",
     ),
     (
         r#"{"form":2,"extracts":[{"name":"a","columns":[["c","text"],["n","whole"]]}],"lanes":[[],[{"batch":[{"blend":[{"source":"a"},{"source":"a","blend":[]}]}]}]]}"#,
-        Told::Shape("/lanes/1/0/batch/0/blend/1/blend"),
+        "shape /lanes/1/0/batch/0/blend/1/blend",
     ),
     (
         r#"{"form":2,"extracts":[{"name":"a","columns":[["c","text"],["n","whole"]]}],"lanes":[[],[{"batch":[{"blend":[{"source":"a"},{"source":"a","by":["c",["band","n",5]]}]}]}]]}"#,
-        Told::Shape("/lanes/1/0/batch/0/blend/1/by/0"),
+        "shape /lanes/1/0/batch/0/blend/1/by/0",
     ),
     (
         r#"{"form":2,"extracts":[{"name":"a","columns":[["c","text"],["n","whole"]]}],"lanes":[[],[{"batch":[{"blend":[{"source":"a","by":["c",["band","n",5]]},{"source":"a"}]}]}]]}"#,
-        Told::Read,
+        "read",
     ),
     (
         r#"{"form":2,"extracts":[{"name":"a","columns":[["c","text"],["n","whole"]]}],"lanes":[[],[{"batch":[{"blend":[{"source":"a","by":["c",["band","n",5]]},{"source":"a","by":["c",["band","n",5]]}]}]}]]}"#,
-        Told::Read,
+        "read",
     ),
     (
         r#"{"form":2,"extracts":[{"name":"a","columns":[["c","text"],["n","whole"]]}],"lanes":[[],[{"batch":[{"blend":[{"source":"a","by":["c",["band","n",5]]},{"source":"a","by":[["band","n",4]]}]}]}]]}"#,
-        Told::Shape("/lanes/1/0/batch/0/blend/1/by/0"),
+        "shape /lanes/1/0/batch/0/blend/1/by/0",
     ),
     (
         r#"{"form":2,"extracts":[{"name":"a","columns":[["c","text"],["n","whole"]]}],"lanes":[[],[{"batch":[{"blend":[{"source":"a","by":["x"]},{"source":"a","by":["x","y"]}]}]}]]}"#,
-        Told::Shape("/lanes/1/0/batch/0/blend/1/by/1"),
+        "shape /lanes/1/0/batch/0/blend/1/by/1",
     ),
     (
         r#"{"form":2,"extracts":[{"name":"a","columns":[["c","text"],["n","whole"]]}],"lanes":[[],[{"batch":[{"blend":[{"source":"a"},{"source":"a"}],"source":1,"by":1}]}]]}"#,
-        Told::Shape("/lanes/1/0/batch/0/by"),
+        "shape /lanes/1/0/batch/0/by",
     ),
 ];
 
 // Sessions, and what is told of each.
-const SESSIONS: [(&str, Told); 10] = [
+const SESSIONS: [(&str, &str); 10] = [
     (
         r#"{"form":2,"extracts":[{"name":"a","columns":[["c","text"],["n","whole"]]}],"lanes":[[],[]],"sessions":[{"lane":1,"source":"a","filters":[]}]}"#,
-        Told::Read,
+        "read",
     ),
     (
         r#"{"form":2,"extracts":[{"name":"a","columns":[["c","text"],["n","whole"]]}],"lanes":[[],[]],"sessions":[{}]}"#,
-        Told::Shape("/sessions/0/lane"),
+        "shape /sessions/0/lane",
     ),
     (
         r#"{"form":2,"extracts":[{"name":"a","columns":[["c","text"],["n","whole"]]}],"lanes":[[],[]],"sessions":[{"lane":1}]}"#,
-        Told::Shape("/sessions/0/source"),
+        "shape /sessions/0/source",
     ),
     (
         r#"{"form":2,"extracts":[{"name":"a","columns":[["c","text"],["n","whole"]]}],"lanes":[[],[]],"sessions":[{"lane":1,"source":"a"}]}"#,
-        Told::Shape("/sessions/0/filters"),
+        "shape /sessions/0/filters",
     ),
     (
         r#"{"form":2,"extracts":[{"name":"a","columns":[["c","text"],["n","whole"]]}],"lanes":[[],[]],"sessions":[{"lane":1,"source":"a","filters":[]},{"lane":1,"source":"a","filters":[]}]}"#,
-        Told::Shape("/sessions/1/source"),
+        "shape /sessions/1/source",
     ),
     (
         r#"{"form":2,"extracts":[{"name":"a","columns":[["c","text"],["n","whole"]]}],"lanes":[[],[]],"sessions":[{"lane":1,"source":"a","filters":[]},{"lane":2,"source":"a","filters":[]}]}"#,
-        Told::Read,
+        "read",
     ),
     (
         r#"{"form":2,"extracts":[{"name":"a","columns":[["c","text"],["n","whole"]]}],"lanes":[[],[]],"sessions":[{"lane":1,"source":"a","filters":[],"a":1}]}"#,
-        Told::Shape("/sessions/0/a"),
+        "shape /sessions/0/a",
     ),
     (
         r#"{"form":2,"extracts":[{"name":"a","columns":[["c","text"],["n","whole"]]}],"lanes":[[],[]],"sessions":[{"lane":1,"source":"x","filters":[]}]}"#,
-        Told::Extract("/sessions/0/source"),
+        "unknown extract /sessions/0/source",
     ),
     (
         r#"{"form":2,"extracts":[{"name":"a","columns":[["c","text"],["n","whole"]]}],"lanes":[[],[]],"sessions":[{"lane":1,"source":"a","filters":[]},{"lane":3,"source":"a","filters":[]}]}"#,
-        Told::Lane("/sessions/1/lane"),
+        "unknown lane /sessions/1/lane",
     ),
     (
         r#"{"form":2,"extracts":[{"name":"a","columns":[["c","text"],["n","whole"]]}],"lanes":[[],[]],"sessions":[{"lane":1,"source":"a","filters":[{"column":"c","among":[1,true]}]}]}"#,
-        Told::Shape("/sessions/0/filters/0/among/1"),
+        "shape /sessions/0/filters/0/among/1",
     ),
 ];
 
 // What stands around a repeated text, how often it is repeated, and what is told of the whole.
-const COUNTS: [(&str, &str, &str, u32, Told); 20] = [
+const COUNTS: [(&str, &str, &str, u32, &str); 20] = [
     (
         r#"{"form":1,"extracts":["#,
         r#"{"name":"e#","columns":[["c","text"]]},"#,
         r#"{"name":"e","columns":[["c","text"]]}],"lanes":[]}"#,
         63,
-        Told::Read,
+        "read",
     ),
     (
         r#"{"form":1,"extracts":["#,
         r#"{"name":"e#","columns":[["c","text"]]},"#,
         r#"{"name":"e","columns":[["c","text"]]}],"lanes":[]}"#,
         64,
-        Told::Limit(Limit::Extracts, 65),
+        "limit Extracts 65",
     ),
     (
         r#"{"form":1,"extracts":[{"name":"e","columns":["#,
         r#"["c#","text"],"#,
         r#"["c","text"]]}],"lanes":[]}"#,
         63,
-        Told::Read,
+        "read",
     ),
     (
         r#"{"form":1,"extracts":[{"name":"e","columns":["#,
         r#"["c#","text"],"#,
         r#"["c","text"]]}],"lanes":[]}"#,
         64,
-        Told::Limit(Limit::Columns, 65),
+        "limit Columns 65",
     ),
     (
         r#"{"form":1,"extracts":[],"lanes":["#,
         "[],",
         "[]]}",
         63,
-        Told::Read,
+        "read",
     ),
     (
         r#"{"form":1,"extracts":[],"lanes":["#,
         "[],",
         "[]]}",
         64,
-        Told::Limit(Limit::Lanes, 65),
+        "limit Lanes 65",
     ),
     (
         r#"{"form":1,"extracts":[],"lanes":[["#,
         r#"{"batch":[]},"#,
         r#"{"batch":[]}]]}"#,
         4095,
-        Told::Read,
+        "read",
     ),
     (
         r#"{"form":1,"extracts":[],"lanes":[["#,
         r#"{"batch":[]},"#,
         r#"{"batch":[]}]]}"#,
         4096,
-        Told::Limit(Limit::Steps, 4097),
+        "limit Steps 4097",
     ),
     (
         r#"{"form":1,"extracts":[],"lanes":[[{"batch":["#,
         r#"{"source":"z"},"#,
         r#"{"source":"z"}]}]]}"#,
         63,
-        Told::Read,
+        "read",
     ),
     (
         r#"{"form":1,"extracts":[],"lanes":[[{"batch":["#,
         r#"{"source":"z"},"#,
         r#"{"source":"z"}]}]]}"#,
         64,
-        Told::Limit(Limit::Zones, 65),
+        "limit Zones 65",
     ),
     (
         r#"{"form":2,"extracts":[],"lanes":[[{"batch":["#,
         r#"{"blend":[{"source":"z"},{"source":"z"}]},"#,
         r#"{"source":"z"},{"source":"z"}]}]]}"#,
         31,
-        Told::Read,
+        "read",
     ),
     (
         r#"{"form":2,"extracts":[],"lanes":[[{"batch":["#,
         r#"{"blend":[{"source":"z"},{"source":"z"}]},"#,
         r#"{"source":"z"}]}]]}"#,
         32,
-        Told::Limit(Limit::Zones, 65),
+        "limit Zones 65",
     ),
     (
         r#"{"form":1,"extracts":[],"lanes":[[]],"faults":[{"lane":1,"dials":["#,
         "1,",
         "1]}]}",
         4095,
-        Told::Read,
+        "read",
     ),
     (
         r#"{"form":1,"extracts":[],"lanes":[[]],"faults":[{"lane":1,"dials":["#,
         "1,",
         "1]}]}",
         4096,
-        Told::Limit(Limit::Faults, 4097),
+        "limit Faults 4097",
     ),
     (
         r#"{"form":1,"extracts":[],"lanes":[[]],"faults":[{"lane":1,"links":["#,
         "0,",
         "0]}]}",
         4096,
-        Told::Limit(Limit::Faults, 4097),
+        "limit Faults 4097",
     ),
     (
         r#"{"form":2,"extracts":[{"name":"a","columns":[["n","whole"]]}],"lanes":[[]],"sessions":[{"lane":1,"source":"a","filters":[{"column":"n","among":["#,
         "1,",
         "1]}]}]}",
         255,
-        Told::Read,
+        "read",
     ),
     (
         r#"{"form":2,"extracts":[{"name":"a","columns":[["n","whole"]]}],"lanes":[[]],"sessions":[{"lane":1,"source":"a","filters":[{"column":"n","among":["#,
         "1,",
         "1]}]}]}",
         256,
-        Told::Limit(Limit::SessionItems, 257),
+        "limit SessionItems 257",
     ),
     (
         r#"{"form":2,"extracts":[{"name":"a","columns":[["n","whole"]]}],"lanes":[[]],"sessions":[{"lane":1,"source":"a","filters":[{"column":"n","among":["#,
         r#""0123456789abcdef0123456789abcdef0","#,
         r#""","0123456789abcdef0123456789abcdef"]}]}]}"#,
         127,
-        Told::Read,
+        "read",
     ),
     (
         r#"{"form":2,"extracts":[{"name":"a","columns":[["n","whole"]]}],"lanes":[[]],"sessions":[{"lane":1,"source":"a","filters":[{"column":"n","among":["#,
         r#""0123456789abcdef0123456789abcdef0","#,
         r#""","0123456789abcdef0123456789abcdef",null]}]}]}"#,
         127,
-        Told::Limit(Limit::SessionItems, 257),
+        "limit SessionItems 257",
     ),
     (
         r#"{"form":2,"extracts":[{"name":"a","columns":[["n","whole"]]}],"lanes":[[]],"sessions":[{"lane":1,"source":"a","filters":["#,
         r#"{"column":"n","except":[]},"#,
         r#"{"column":"n","between":[null,1]}]}]}"#,
         256,
-        Told::Limit(Limit::SessionItems, 257),
+        "limit SessionItems 257",
     ),
 ];
 
@@ -625,7 +630,7 @@ fn copies(alloc: Global, text: &str, count: u32) -> Result<String, AllocError> {
 fn tells_faults_of_whole_scripts(rt: HostRuntime) -> Result<(), Fail> {
     let alloc = rt.alloc();
     for (script, told) in WHOLE {
-        assert!(rt; tells(&read(alloc, script.as_bytes()), told), "{script}");
+        assert!(rt; tells(alloc, script.as_bytes(), told)?, "{script}");
     }
     Ok(())
 }
@@ -634,7 +639,7 @@ fn tells_faults_of_whole_scripts(rt: HostRuntime) -> Result<(), Fail> {
 fn tells_faults_of_extracts_and_faults(rt: HostRuntime) -> Result<(), Fail> {
     let alloc = rt.alloc();
     for (script, told) in PARTS {
-        assert!(rt; tells(&read(alloc, script.as_bytes()), told), "{script}");
+        assert!(rt; tells(alloc, script.as_bytes(), told)?, "{script}");
     }
     Ok(())
 }
@@ -643,7 +648,7 @@ fn tells_faults_of_extracts_and_faults(rt: HostRuntime) -> Result<(), Fail> {
 fn tells_faults_of_steps(rt: HostRuntime) -> Result<(), Fail> {
     let alloc = rt.alloc();
     for (script, told) in STEPS {
-        assert!(rt; tells(&read(alloc, script.as_bytes()), told), "{script}");
+        assert!(rt; tells(alloc, script.as_bytes(), told)?, "{script}");
     }
     Ok(())
 }
@@ -652,7 +657,7 @@ fn tells_faults_of_steps(rt: HostRuntime) -> Result<(), Fail> {
 fn tells_faults_of_zones(rt: HostRuntime) -> Result<(), Fail> {
     let alloc = rt.alloc();
     for (script, told) in ZONES {
-        assert!(rt; tells(&read(alloc, script.as_bytes()), told), "{script}");
+        assert!(rt; tells(alloc, script.as_bytes(), told)?, "{script}");
     }
     Ok(())
 }
@@ -661,7 +666,7 @@ fn tells_faults_of_zones(rt: HostRuntime) -> Result<(), Fail> {
 fn tells_faults_of_blends(rt: HostRuntime) -> Result<(), Fail> {
     let alloc = rt.alloc();
     for (script, told) in PAIRS {
-        assert!(rt; tells(&read(alloc, script.as_bytes()), told), "{script}");
+        assert!(rt; tells(alloc, script.as_bytes(), told)?, "{script}");
     }
     Ok(())
 }
@@ -670,7 +675,7 @@ fn tells_faults_of_blends(rt: HostRuntime) -> Result<(), Fail> {
 fn tells_faults_of_sessions(rt: HostRuntime) -> Result<(), Fail> {
     let alloc = rt.alloc();
     for (script, told) in SESSIONS {
-        assert!(rt; tells(&read(alloc, script.as_bytes()), told), "{script}");
+        assert!(rt; tells(alloc, script.as_bytes(), told)?, "{script}");
     }
     Ok(())
 }
@@ -678,8 +683,8 @@ fn tells_faults_of_sessions(rt: HostRuntime) -> Result<(), Fail> {
 #[test]
 fn refuses_what_is_no_json(rt: HostRuntime) -> Result<(), Fail> {
     let alloc = rt.alloc();
-    assert!(rt; tells(&read(alloc, &[b'['; 200]), Told::NotJson));
-    assert!(rt; tells(&read(alloc, &[b'"', 255, b'"']), Told::NotJson));
+    assert!(rt; tells(alloc, &[b'['; 200], "not json")?);
+    assert!(rt; tells(alloc, &[b'"', 255, b'"'], "not json")?);
     Ok(())
 }
 
@@ -689,10 +694,7 @@ fn tests_each_limit(rt: HostRuntime) -> Result<(), Fail> {
     for (start, text, end, count, told) in COUNTS {
         let more = copies(alloc, text, count)?;
         let script = format!(in alloc; "{start}{}{end}", more.as_str())?;
-        assert!(rt;
-            tells(&read(alloc, script.as_bytes()), told),
-            "{count} of {text}"
-        );
+        assert!(rt; tells(alloc, script.as_bytes(), told)?, "{count} of {text}");
     }
     Ok(())
 }
