@@ -1,5 +1,5 @@
 -- A script passes limits on counts, and none on bytes.
-use Rattle.std.proofs.Common.{◌≡◌, ℕ, List, cong, subst}
+use Rattle.std.proofs.Common.{◌≡◌, ℕ, List, ap, subst}
 use Rattle.std.specs.Prelude.{Result, Ok, Err, Option, Some, None, option_map, length}
 use Rattle.serde_json.specs.Data.{Data}
 use Rattle.dq_base.specs.Limits.{most_extracts, most_lanes, most_all_zones, most_turns}
@@ -70,13 +70,13 @@ names_count d =
 reasons_count : (d : Draft) → AllCount (reason_against d)
 reasons_count d = or_counts (over_limit d) (stray_name d) (limits_count d) (names_count d)
 
-reason_or : ScriptReason → Result Script ScriptReason → ScriptReason
+abbrev reason_or : ScriptReason → Result Script ScriptReason → ScriptReason
 reason_or reason (Ok script) = reason
 reason_or reason (Err other) = other
 
 reason_counts : (d : Draft) (o : Option ScriptReason) (reason : ScriptReason) → AllCount o → unless_reason d o ≡ Err reason → Counts reason
 reason_counts d None reason p is = absurd (cc)
-reason_counts d (Some r) reason p is = subst Counts (cong (reason_or r) is) p
+reason_counts d (Some r) reason p is = subst Counts (ap (reason_or r) is) p
 
 draft_counts : (r : Reading Draft) (which : Limit) (value : ℕ) → script_from r ≡ Err (over which value) → Counts (over which value)
 draft_counts (Ok d) which value is = reason_counts d (reason_against d) (over which value) (reasons_count d) is
