@@ -25,6 +25,3 @@ mod total;
 pub use answers::answer_of;
 pub use fold::Fold;
 pub use keeps::passes;
-
-#[cfg(test)]
-mod tests;

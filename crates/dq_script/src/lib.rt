@@ -45,8 +45,6 @@ mod reads;
 mod sessions;
 mod step;
 mod strays;
-#[cfg(test)]
-mod tests;
 mod wanted;
 mod zone;
 

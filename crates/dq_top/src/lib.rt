@@ -26,6 +26,3 @@ pub use fault::Fault;
 pub use outcome::Outcome;
 pub use rehearsing::rehearse;
 pub use telling::tell;
-
-#[cfg(test)]
-mod tests;

@@ -4,11 +4,11 @@ ghost use Rattle.dq_base.specs.Orders.{value_cmp};
 ghost use Rattle.dq_base.specs.Sets.{set_of};
 ghost use Rattle.dq_fold.specs.Folding.{folded};
 
-use crate::{Fold, answer_of, passes};
 use dq_base::{
     Canon, Cell, Cells, Dim, Dims, List, Measure, Memory, OrderKey, OrderKeys, Predicate,
     Predicates, Query, Table, Test, Text, Value, Values, put,
 };
+use dq_fold::{Fold, answer_of, passes};
 use std::alloc::Global;
 use std::process::Abort;
 use std::test::Fail;

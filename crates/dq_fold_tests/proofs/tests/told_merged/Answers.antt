@@ -1,7 +1,7 @@
 use Rattle.std.proofs.Common.{ap, sym, ◌∙◌}
 use Rattle.dq_base.specs.declared.query.Query.{Query}
 use Rattle.dq_fold.specs.Folding.{folded}
-use Rattle.dq_fold.proofs.tests.told_merged.Goals as goal
+use Rattle.dq_fold_tests.proofs.tests.told_merged.Goals as goal
 
 pub finish-requires : goal.finish-requires
 finish-requires c =

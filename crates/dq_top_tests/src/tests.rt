@@ -1,9 +1,9 @@
 // What runs write and tell, from the format's texts.
-use crate::{Fault, Outcome, rehearse, tell};
 use dq_base::{Limit, List, Numbers64, Text, Texts};
 use dq_extract::LoadFault;
 use dq_outside::{Folder, MemFolder, MemSink, NamedFile, NamedFiles, SureFolder, SureSink};
 use dq_script::ScriptFault;
+use dq_top::{Fault, Outcome, rehearse, tell};
 use std::alloc::Global;
 use std::process::Abort;
 

@@ -1,7 +1,7 @@
-use super::*;
 use dq_base::{
     Bound, How, Limit, Measure, Memory, OrderKey, Predicate, Query, Script, Step, Test, Text,
 };
+use dq_script::{ScriptFault, read, wants_no_fault};
 use std::alloc::{AllocError, Global};
 use std::test::Fail;
 
