@@ -5,5 +5,4 @@ pub mod Standing
 pub mod Kept
 pub mod Agreeing
 pub mod Admissions
-pub mod Worked
 pub mod Lanes

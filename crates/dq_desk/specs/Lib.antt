@@ -8,4 +8,3 @@ pub mod Refreshing
 pub mod Stamps
 pub mod State
 pub mod Stood
-pub mod Worked

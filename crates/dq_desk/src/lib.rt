@@ -31,6 +31,3 @@ pub use desk::{Admitted, Desk, Parts};
 pub use prepared::Prepared;
 pub use steps::step_at;
 pub use stood::{Stood, Stoods};
-
-#[cfg(test)]
-mod tests;

@@ -5,4 +5,3 @@ pub mod Kept
 pub mod Right
 pub mod Turns
 pub mod View
-pub mod Worked

@@ -19,6 +19,3 @@ mod progress;
 mod refusals;
 
 pub use lane::{Lane, Stepped};
-
-#[cfg(test)]
-mod tests;

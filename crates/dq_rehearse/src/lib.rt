@@ -15,6 +15,3 @@ pub use beginning::new_lanes;
 pub use gathering::gather;
 pub use playing::{Played, play};
 pub use whole::{Whole, play_script};
-
-#[cfg(test)]
-mod tests;

@@ -10,7 +10,7 @@ use Rattle.dq_desk.specs.Machine.{after}
 use Rattle.dq_desk.specs.Preparing.{PreparedOf, preparation, IsPreparation}
 use Rattle.dq_desk.specs.Publishing.{MayPublish}
 use Rattle.dq_desk.specs.State.{IsFree}
-use Rattle.dq_desk.specs.Worked.{worked_lanes, worked_zones, worked_preparation}
+use Rattle.dq_run_tests.specs.Samples.{worked_lanes, worked_zones, worked_preparation}
 
 -- the order of the test
 

@@ -1,6 +1,6 @@
 use Rattle.dq_lane.specs.Turns.{GrewBy}
 use Rattle.dq_lane.proofs.Others.{goes_on_grew}
-use Rattle.dq_lane.proofs.tests.turn.Goals as goal
+use Rattle.dq_run_tests.proofs.lane.turn.Goals as goal
 
 pub returns-clause-other : goal.returns-clause-other
 returns-clause-other c =

@@ -1,52 +1,22 @@
 // The desk, once through all its calls: two lanes refresh two extracts, and a batch is admitted between.
 ghost use Rattle.std.specs.Arc.{arc_value};
-ghost use Rattle.std.specs.Prelude.{◌≡◌, ◌≤◌, [], ◌∷◌, ◌++◌, true, length};
+ghost use Rattle.std.specs.Prelude.{◌≡◌, length};
 ghost use Rattle.dq_base.specs.Canonical.{IsCanonical};
-ghost use Rattle.dq_base.specs.Scripts.{IsScript, heading_fits};
-ghost use Rattle.dq_base.specs.Versions.{IsVersion, cells_of};
-ghost use Rattle.dq_base.specs.declared.script.Step.{Step as StepOf};
-ghost use Rattle.dq_desk.specs.Worked.{rows_of, worked_lanes, worked_preparation, worked_zones};
+ghost use Rattle.dq_base.specs.Scripts.{IsScript};
+ghost use Rattle.dq_run_tests.specs.Samples.{rows_of, worked_lanes, worked_preparation, worked_zones};
 
-use crate::{Desk, Prepared, Stood};
+use crate::samples::{MORE, SALES, list_of, no_fails, put, refresh, shared, three_columns, word};
 use dq_base::{
-    Bound, Canon, Canons, Fails, FailsList, How, LaneSteps, List, Measure, Queries, Query, Schema,
-    Schemas, Script, Sort, Step, Steps, Text, Texts,
+    Bound, Canon, Canons, FailsList, How, LaneSteps, List, Measure, Queries, Query, Schemas,
+    Script, Step, Steps, Texts,
 };
-use dq_extract::{Loaded, Segment, SegmentList, load};
+use dq_desk::{Desk, Prepared, Stood};
+use dq_extract::{Loaded, SegmentList};
 use dq_journal::Entry;
 use std::alloc::Global;
 use std::process::Abort;
 use std::sync::Arc;
 use std::test::Fail;
-
-const SALES: &[u8] =
-    b"region,year,amount\nEast,2020,10\nEast,2021,5\nWest,2020,7\nWest,2021,\n,2021,4\n";
-
-const MORE: &[u8] = b"region,year,amount\nEast,2022,3\n";
-
-fn word(rt: &impl Abort, alloc: Global, bytes: &[u8]) -> Text {
-    Text::copy_of(alloc, bytes).ok().expect(rt, "memory")
-}
-
-fn list_of<T: Drop, const N: usize>(rt: &impl Abort, alloc: Global, items: [T; N]) -> List<T>
-    ensures { result ≡ items }
-{
-    List::from_vec(Vec::from_array(alloc, items).ok().expect(rt, "memory"))
-}
-
-// A text column and two whole ones.
-fn three_columns(rt: &impl Abort, alloc: Global) -> Schema
-    ensures { heading_fits result ≡ true }
-{
-    let names = [
-        word(rt, alloc, b"region"),
-        word(rt, alloc, b"year"),
-        word(rt, alloc, b"amount"),
-    ];
-    let sorts = [Sort::Word, Sort::Whole, Sort::Whole];
-    let schema = Schema::new(alloc, list_of(rt, alloc, names), list_of(rt, alloc, sorts));
-    schema.ok().expect(rt, "memory")
-}
 
 // How many rows an extract has.
 fn count_of(rt: &impl Abort, alloc: Global, source: u32) -> Query
@@ -60,13 +30,6 @@ fn count_of(rt: &impl Abort, alloc: Global, source: u32) -> Query
         order: List::new(alloc),
         top: None,
     }
-}
-
-fn refresh(alloc: Global, source: u32, how: How) -> Step
-    ensures { result ≡ StepOf.Publish source how [] }
-{
-    let file = List::new(alloc);
-    Step::Publish { source, how, file }
 }
 
 fn zones(rt: &impl Abort, alloc: Global) -> Queries
@@ -92,15 +55,6 @@ fn lanes(rt: &impl Abort, alloc: Global) -> LaneSteps
     let first: Steps = list_of(rt, alloc, first);
     let second: Steps = list_of(rt, alloc, second);
     list_of(rt, alloc, [first, second])
-}
-
-fn no_fails(alloc: Global) -> Fails
-    ensures { result ≡ record { dials = []; links = [] } }
-{
-    Fails {
-        dials: List::new(alloc),
-        links: List::new(alloc),
-    }
 }
 
 // Two extracts of one schema.
@@ -131,24 +85,6 @@ fn script(rt: &impl Abort, alloc: Global) -> Script
         sessions: List::new(alloc),
         blends: List::new(alloc),
     }
-}
-
-// The shared segment of a file of five rows at most.
-fn shared(rt: &impl Abort, alloc: Global, schema: &Schema, file: &[u8]) -> Arc<Segment>
-    ensures heading { (arc_value result).heading ≡ schema.now }
-    ensures cells { cells_of (arc_value result) ≤ 15 }
-    ensures version { IsVersion (arc_value result) }
-{
-    assert!(rt; schema.names().len() > 0);
-    let segment = load(alloc, schema, 15, file).ok().expect(rt, "loaded");
-    assert!(rt; segment.count() <= 5);
-    Arc::new(alloc, segment).ok().expect(rt, "memory")
-}
-
-fn put(rt: &impl Abort, segments: &mut SegmentList, segment: Arc<Segment>)
-    ensures { segments.new ≡ segments.old ++ arc_value segment ∷ [] }
-{
-    assert!(rt; segments.push(segment).is_ok());
 }
 
 // The script with its three segments.

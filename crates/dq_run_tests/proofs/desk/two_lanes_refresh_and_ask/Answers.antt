@@ -1,7 +1,7 @@
 use Rattle.std.proofs.Common.{◌≡◌, ◌∷◌, [], ◌∙◌, ap, length}
 use Rattle.dq_journal.specs.declared.entry.Entry.TheVariants.{Publish, Admit, End}
-use Rattle.dq_desk.proofs.Worked.{first_may, second_may, third_may, batch_may, other_ends, last_ends, worked_prepared}
-use Rattle.dq_desk.proofs.tests.two_lanes_refresh_and_ask.Goals as goal
+use Rattle.dq_run_tests.proofs.Allowed.{first_may, second_may, third_may, batch_may, other_ends, last_ends, worked_prepared}
+use Rattle.dq_run_tests.proofs.desk.two_lanes_refresh_and_ask.Goals as goal
 
 pub publish-requires : goal.publish-requires
 publish-requires g c =
