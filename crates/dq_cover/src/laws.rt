@@ -1,6 +1,6 @@
-ghost use Rattle.std.specs.List.{list_any};
-ghost use Rattle.std.specs.Prelude.{◌≡◌, ◌&&◌, ℕ, List, not, true};
-ghost use Rattle.dq_base.specs.Batches.{is_local};
+ghost use Rattle.std.specs.List.{list_all, list_any};
+ghost use Rattle.std.specs.Prelude.{◌≡◌, ◌&&◌, ◌∷◌, ℕ, List, not, true};
+ghost use Rattle.dq_base.specs.Batches.{fused_key, fuses, is_local};
 ghost use Rattle.dq_base.specs.Covering as cover;
 ghost use Rattle.dq_base.specs.declared.predicate.Test.{Test as TestOf};
 ghost use Rattle.dq_base.specs.declared.query.Query.{Query as QueryOf};
@@ -29,5 +29,9 @@ pub fn within_is_transitive()
 pub fn local_has_remote()
     ensures { (batch : List (ℕ × QueryOf)) → (q : ℕ × QueryOf) → is_local batch q ≡ true
         → list_any (λ p. not (is_local batch p) && cover.covers p.1 q.1) batch ≡ true }
-{
-}
+{}
+
+/// The key of a group of several covers each of its members. The body is empty: the clause is the law.
+pub fn fused_key_covers()
+    ensures { (q p : QueryOf) → (ps : List QueryOf) → list_all (fuses q) (p ∷ ps) ≡ true → list_all (cover.covers (fused_key (p ∷ ps) q)) (q ∷ p ∷ ps) ≡ true }
+{}

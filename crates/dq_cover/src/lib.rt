@@ -17,8 +17,11 @@ mod testing;
 
 pub use covering::covers;
 pub use laws::{
-    covering_is_reflexive, covering_is_transitive, local_has_remote, within_is_reflexive,
-    within_is_transitive,
+    covering_is_reflexive, covering_is_transitive, fused_key_covers, local_has_remote,
+    within_is_reflexive, within_is_transitive,
 };
 pub use sameness::same;
 pub use testing::within;
+
+#[cfg(test)]
+mod tests;
