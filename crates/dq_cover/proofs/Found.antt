@@ -1,7 +1,7 @@
 -- What a search in an ascending list finds.
-use Rattle.std.proofs.Common.{◌≡◌, ℕ, zero, suc, ◌+◌, ◌-◌, ◌<◌, ◌≤◌, Bool, true, false, ◌||◌, ◌&&◌, List, [], ◌∷◌, map, length, take, drop, slice_index_or, refl, sym, ap, ◌∙◌, subst, nat_eq, nat_lt, arith, add-one, Result, Ok, Err}
+use Rattle.std.proofs.Common.{◌≡◌, ℕ, zero, suc, ◌+◌, ◌<◌, ◌≤◌, Bool, true, false, ◌||◌, List, [], ◌∷◌, map, length, take, drop, slice_index_or, refl, sym, ap, ◌∙◌, subst, arith, add-one, Result, Ok, Err}
 use Rattle.std.specs.Bool.{IsTrue}
-use Rattle.std.specs.List.{AllWithin, HoldsAt, IsAllAdjacentAnswer, list_any}
+use Rattle.std.specs.List.{AllWithin, IsAllAdjacentAnswer, list_any}
 use Rattle.std.specs.List.Sorted.{IsBinarySearchResult, IsNonDecreasingBy, IsSearchInRange, IsSorted}
 use Rattle.std.specs.Cmp.{IsTotalOrder}
 use Rattle.std.specs.Result.{is_ok}
@@ -15,7 +15,6 @@ use Rattle.dq_base.proofs.SetLaws.{Ascends, ascends_set_of}
 use Rattle.dq_base.specs.Canonical.{IsCanonical, canonical_predicate, predicate_cmp}
 use Rattle.dq_base.specs.PredicateOrder.{predicate_cmp_total}
 use Rattle.dq_base.specs.Sets.{has}
-use Rattle.dq_base.specs.declared.predicate.Predicate.{Predicate}
 use Rattle.dq_base.specs.declared.query.Query.{Query}
 
 -- what holds of no item below a place holds of some item exactly where it does of one from there on

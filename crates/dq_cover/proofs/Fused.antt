@@ -1,16 +1,14 @@
 -- The key of a group covers its members.
-use Rattle.std.proofs.Common.{◌≡◌, ℕ, Bool, true, false, not, ◌||◌, ◌&&◌, cond, List, [], ◌∷◌, ◌++◌, map, refl, sym, ap, ◌∙◌, subst, Option, Some, None, nat_eq}
-use Rattle.std.specs.Prelude.{is_none, if◌then◌else◌}
+use Rattle.std.proofs.Common.{◌≡◌, Bool, true, false, ◌||◌, ◌&&◌, List, [], ◌∷◌, ◌++◌, refl, sym, ap, ◌∙◌, None, nat_eq}
+use Rattle.std.specs.Prelude.{if◌then◌else◌}
 use Rattle.std.specs.List.{list_any, list_all, fold}
 use Rattle.std.proofs.lemmas.List.Folds.{list_any-append}
-use Rattle.dq_base.specs.Covering.{within, covers, needs, gives, shows, groups_by, made_of, makes, all_in_dims, same_dims, implied, checkable, predicate_eq, measure_eq, lists_eq, query_eq, Part, TheRows, Filled, Total, Least, Greatest, Different}
+use Rattle.dq_base.specs.Covering.{within, covers, needs, gives, shows, groups_by, made_of, makes, all_in_dims, same_dims, implied, checkable, predicate_eq, measure_eq, Filled, Total, Least, Greatest, Different}
 use Rattle.dq_base.specs.Dims.{dim_eq}
 use Rattle.dq_base.specs.Batches.{fuses, with_measure, union, fused_key}
-use Rattle.dq_cover.proofs.CoverLaws.{Covering, from_parts, and_left, and_right, and_both, or_left, or_right, all_weaker, any_weaker, all_self, dim_same, lists_same, any_at, exact_dims, made_same, exact_list, exact_predicate_eq, exact_measures, number_same, predicate_same, measure_same, within_refl}
-use Rattle.dq_base.specs.declared.predicate.Predicate.{Predicate}
+use Rattle.dq_cover.proofs.CoverLaws.{from_parts, and_left, and_right, and_both, or_left, or_right, all_weaker, all_self, dim_same, lists_same, any_at, exact_dims, made_same, exact_list, exact_predicate_eq, number_same, predicate_same, measure_same, within_refl}
 use Rattle.dq_base.specs.declared.query.Measure.{Measure}
 use Rattle.dq_base.specs.declared.query.Measure.TheVariants.{Rows, Count, Sum, Min, Max, Distinct, Avg}
-use Rattle.dq_base.specs.declared.query.OrderKey.{OrderKey}
 use Rattle.dq_base.specs.declared.query.Query.{Query}
 
 abbrev listed : List Measure → Measure → Bool

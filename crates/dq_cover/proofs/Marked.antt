@@ -1,12 +1,11 @@
 -- What the table of a query's parts says.
-use Rattle.std.proofs.Common.{◌≡◌, ℕ, ◌+◌, ◌*◌, ◌<◌, Bool, true, false, ◌||◌, ◌&&◌, List, length, take, slice_index_or, slice_set, zero, suc, [], ◌∷◌, replicate, refl, sym, ap, ◌∙◌, nat_eq, arith, eq-eqb}
+use Rattle.std.proofs.Common.{◌≡◌, ℕ, ◌+◌, ◌*◌, ◌<◌, Bool, true, false, ◌||◌, List, length, take, slice_index_or, slice_set, zero, suc, [], ◌∷◌, replicate, refl, sym, ap, ◌∙◌, nat_eq, arith, eq-eqb}
 use Rattle.std.specs.List.{list_any}
 use Rattle.std.proofs.lemmas.Bool.{eqb-true}
 use Rattle.std.proofs.lemmas.List.Folds.{list_any_more}
 use Rattle.std.proofs.lemmas.Grind.{get_or-set_at}
 use Rattle.std.proofs.lemmas.List.{get_or-set_other, length-set}
 use Rattle.dq_base.specs.Covering.{measure_eq}
-use Rattle.dq_base.specs.Dims.{Dimension, is_plain}
 use Rattle.dq_base.specs.declared.query.Measure.{Measure}
 use Rattle.dq_base.specs.declared.query.Measure.TheVariants.{Rows, Count, Sum, Min, Max, Distinct, Avg}
 use Rattle.dq_cover.specs.Parts.{AreMarks, place_of}

@@ -1,7 +1,7 @@
 -- Which parts of each column a query's answer shows.
 use Rattle.std.specs.Prelude.{◌≡◌, ℕ, ◌+◌, ◌*◌, ◌<◌, Bool, false, List, length, slice_index_or}
 use Rattle.std.specs.List.{list_any}
-use Rattle.dq_base.specs.Covering.{groups_by, measure_eq, shows}
+use Rattle.dq_base.specs.Covering.{groups_by, measure_eq}
 use Rattle.dq_base.specs.declared.query.Measure.{Measure}
 use Rattle.dq_base.specs.declared.query.Measure.TheVariants.{Rows, Count, Sum, Min, Max, Distinct, Avg}
 use Rattle.dq_base.specs.declared.query.Query.{Query}

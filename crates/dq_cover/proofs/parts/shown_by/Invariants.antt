@@ -1,4 +1,4 @@
-use Rattle.std.proofs.Common.{◌≡◌, length, take}
+use Rattle.std.proofs.Common.{take}
 use Rattle.dq_cover.specs.Parts.{AreMarks}
 use Rattle.dq_cover.proofs.parts.shown_by.Given as goal
 
