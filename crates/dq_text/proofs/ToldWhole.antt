@@ -11,7 +11,7 @@ use Rattle.dq_base.specs.declared.query.Query.{Query}
 use Rattle.dq_base.proofs.Told.{Tells}
 use Rattle.dq_base.proofs.ToldNumbers.{number_told}
 use Rattle.dq_text.specs.Reading.{After}
-use Rattle.dq_text.specs.Sizes.{IsNumber, IsSized, IsSizedDim, IsSizedKey, IsSizedMeasure, IsSizedQuery, IsSizedTop}
+use Rattle.dq_text.specs.Sizes.{IsSized, IsSizedDim, IsSizedKey, IsSizedMeasure, IsSizedQuery, IsSizedTop}
 use Rattle.dq_text.specs.Statements.{body, plain_where, shown_text, spelling, where_text}
 use Rattle.dq_text.specs.declared.statement.Statement.{Statement}
 use Rattle.dq_text.proofs.Behind.{after_stops}
