@@ -1,0 +1,11 @@
+pub mod Behind
+pub mod Fronts
+pub mod Loops
+pub mod Numerals
+pub mod Parsed
+pub mod Parts
+pub mod Readings
+pub mod ToldParts
+pub mod ToldWhole
+pub mod Widths
+pub mod Worked

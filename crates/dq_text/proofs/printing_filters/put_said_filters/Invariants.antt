@@ -1,0 +1,7 @@
+use Rattle.std.proofs.Common.{◌≡◌, ◌++◌, take}
+use Rattle.std.specs.List.{flat_map}
+use Rattle.dq_text.specs.Statements as form
+use Rattle.dq_text.proofs.printing_filters.put_said_filters.Given as goal
+
+abbrev pub invariant-loop-predicate : goal.invariant-loop-predicate
+invariant-loop-predicate l = l.text ≡ l.initial.text ++ flat_map form.where_text (take l.predicate-index l.filters)
