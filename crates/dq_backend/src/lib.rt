@@ -15,6 +15,7 @@ mod link;
 mod numbered;
 mod office;
 mod resolving;
+mod sending;
 mod short;
 mod store;
 mod sure;
@@ -22,6 +23,7 @@ mod sure;
 pub use dialer::InDialer;
 pub use link::InLink;
 pub use office::InOffice;
+pub use sending::links_and_dialers_may_be_sent;
 pub use short::{ShortDialer, ShortLink, ShortOffice};
 pub use sure::{SureDialer, SureLink, SureOffice};
 

@@ -1,6 +1,6 @@
 // Pooled links over the back ends in the process: their statements, counts and tables, as they were worked out by hand.
 ghost use Rattle.std.specs.Arc.{arc_value};
-ghost use Rattle.std.specs.Prelude.{◌≡◌, ◌<◌, ◌≤◌, ℕ, None, length};
+ghost use Rattle.std.specs.Prelude.{◌≡◌, ◌≤◌, ◌∷◌, [], ℕ, None, length};
 ghost use Rattle.dq_base.specs.Validity.{first_reason};
 ghost use Rattle.dq_text.specs.Statements.{spelling};
 ghost use Rattle.dq_link.specs.Meanings.{HasMeaning};
@@ -173,6 +173,7 @@ fn spell_table(rt: &impl Abort, alloc: Global, table: &Table) -> Text {
 }
 
 // What an answered statement shows: its text, how often the link ran and was called by then, and the table.
+#[derive(Drop)]
 struct Want<'a> {
     text: &'a str,
     runs: u64,
@@ -253,4 +254,222 @@ fn answered<L: Link>(
     let (pooled, statement) = readied(rt, alloc, pooled, extract, &key, want.calls - 1);
     check_text(rt, alloc, &statement, want.text);
     ran(rt, alloc, pooled, &statement, want)
+}
+
+// A link that was just given, under its number.
+fn dialled<D: Dialer>(rt: &impl Abort, alloc: Global, dialer: &mut D, number: u64) -> Pooled<D::L>
+    ensures { (s : ℕ) → D.L.mounts result.link s ≡ None }
+{
+    match dialer.dial(alloc) {
+        Ok(link) => Pooled::new(alloc, number, link),
+        Err(_) => rt.abort(),
+    }
+}
+
+fn plan(rt: &impl Abort, alloc: Global, dials: &[u64], links: &[u64]) -> Fails {
+    Fails {
+        dials: Numbers64::from_vec(dials.to_vec(alloc).ok().expect(rt, "memory")),
+        links: Numbers64::from_vec(links.to_vec(alloc).ok().expect(rt, "memory")),
+    }
+}
+
+// The first link of the first lane.
+fn first_link<O: Office>(
+    rt: &impl Abort,
+    alloc: Global,
+    office: &mut O,
+    fails: &Fails,
+) -> Pooled<O::L>
+    ensures { (s : ℕ) → O.L.mounts result.link s ≡ None }
+{
+    let dialer = office.dialer(alloc, 1, fails);
+    let mut dialer = dialer.ok().expect(rt, "memory");
+    dialled(rt, alloc, &mut dialer, 1)
+}
+
+// Sixteen values are spelled; seventeen stand in a table.
+fn check_lists<L: Link>(rt: &impl Abort, alloc: Global, pooled: Pooled<L>)
+    requires { (s : ℕ) → L.mounts pooled.link s ≡ None }
+{
+    let extract = sales(rt, alloc);
+    let short = Want {
+        text: "from 0@1 where c1 among (2010,2011,2012,2013,2014,2015,2016,2017,2018,2019,2020,2021,2022,2023,2024,2025) show rows",
+        runs: 1,
+        calls: 2,
+        table: "5|;",
+    };
+    let query = rows_in(rt, alloc, 2010, 2025);
+    let pooled = answered(rt, alloc, pooled, &extract, &query, &short);
+    let long = Want {
+        text: "from 0@1 where c1 among #1 show rows",
+        runs: 2,
+        calls: 4,
+        table: "5|;",
+    };
+    let query = rows_in(rt, alloc, 2010, 2026);
+    let _pooled = answered(rt, alloc, pooled, &extract, &query, &long);
+}
+
+// The third query finds the first one's table.
+fn check_found<L: Link>(rt: &impl Abort, alloc: Global, pooled: Pooled<L>)
+    requires { (s : ℕ) → L.mounts pooled.link s ≡ None }
+{
+    let extract = sales(rt, alloc);
+    let sums = Want {
+        text: "from 0@1 where c1 among #1 by c0 show sum c2",
+        runs: 1,
+        calls: 3,
+        table: "-|4|;East|15|;West|7|;",
+    };
+    let query = by_region(rt, alloc, Measure::Sum(2), 2010, 2026);
+    let pooled = answered(rt, alloc, pooled, &extract, &query, &sums);
+    let others = Want {
+        text: "from 0@1 where c1 among #2 by c0 show sum c2",
+        runs: 2,
+        calls: 5,
+        table: "-|4|;East|15|;West|7|;",
+    };
+    let query = by_region(rt, alloc, Measure::Sum(2), 2011, 2027);
+    let pooled = answered(rt, alloc, pooled, &extract, &query, &others);
+    let maxima = Want {
+        text: "from 0@1 where c1 among #1 by c0 show max c2",
+        runs: 3,
+        calls: 6,
+        table: "-|4|;East|10|;West|7|;",
+    };
+    let query = by_region(rt, alloc, Measure::Max(2), 2010, 2026);
+    let _pooled = answered(rt, alloc, pooled, &extract, &query, &maxima);
+}
+
+// A link with so many tables less one gets one more.
+fn filled<L: Link>(
+    rt: &impl Abort,
+    alloc: Global,
+    pooled: Pooled<L>,
+    extract: &Arc<Extract>,
+    table: u32,
+) -> Pooled<L>
+    requires few { table ≤ 16 }
+    requires stands { StandsFor (L.mounts pooled.link) 0 (record { stamp = 1; version = arc_value extract.now }) }
+    ensures { StandsFor (L.mounts result.link) 0 (record { stamp = 1; version = arc_value extract.now }) }
+{
+    let first = i64::from(table);
+    let query = rows_in(rt, alloc, first, first + 16);
+    let key = key_for(rt, alloc, extract, &query);
+    let (pooled, _) = readied(rt, alloc, pooled, extract, &key, u64::from(table) + 1);
+    pooled
+}
+
+// With the version and sixteen tables the first table gives way to the seventeenth.
+fn check_full<L: Link>(rt: &impl Abort, alloc: Global, pooled: Pooled<L>)
+    requires { (s : ℕ) → L.mounts pooled.link s ≡ None }
+{
+    let extract = sales(rt, alloc);
+    let mut pooled = pooled;
+    for table in 1..=16 {
+        pooled = filled(rt, alloc, pooled, &extract, table);
+    }
+    let want = Want {
+        text: "from 0@1 where c1 among #17 show rows",
+        runs: 1,
+        calls: 20,
+        table: "5|;",
+    };
+    let query = rows_in(rt, alloc, 2010, 2026);
+    let _pooled = answered(rt, alloc, pooled, &extract, &query, &want);
+}
+
+// A link runs a statement in its second call, and fails.
+fn check_wreck<L: Link>(rt: &impl Abort, alloc: Global, pooled: Pooled<L>)
+    requires { (s : ℕ) → L.mounts pooled.link s ≡ None }
+{
+    let extract = sales(rt, alloc);
+    let key = key_for(rt, alloc, &extract, &rows_in(rt, alloc, 2010, 2025));
+    let (pooled, statement) = readied(rt, alloc, pooled, &extract, &key, 1);
+    assert!(rt; pooled.calls() < 1000);
+    match pooled.run(alloc, &statement) {
+        Ran::Failed(wreck) => {
+            assert_eq!(rt; wreck.runs(), 1);
+            assert_eq!(rt; wreck.calls(), 2);
+            assert_eq!(rt; wreck.faults(), 1);
+        }
+        Ran::Memory(_) => rt.abort(),
+        Ran::Done(_, _) => rt.abort(),
+    }
+}
+
+// A run finds no memory in the link's second call.
+fn run_short<L: Link>(
+    rt: &impl Abort,
+    alloc: Global,
+    pooled: Pooled<L>,
+    statement: &Statement,
+) -> Pooled<L>
+    requires { HasMeaning (L.mounts pooled.link) (L.tables pooled.link) (spelling statement.now) }
+    ensures { Same (L.mounts pooled.link) (L.mounts result.link) }
+{
+    assert!(rt; pooled.calls() < 1000);
+    match pooled.run(alloc, statement) {
+        Ran::Memory(pooled) => {
+            assert_eq!(rt; pooled.runs(), 1);
+            assert_eq!(rt; pooled.calls(), 2);
+            pooled
+        }
+        Ran::Failed(_) => rt.abort(),
+        Ran::Done(_, _) => rt.abort(),
+    }
+}
+
+// A link whose second call finds no memory answers in the third.
+fn check_short<L: Link>(rt: &impl Abort, alloc: Global, pooled: Pooled<L>)
+    requires { (s : ℕ) → L.mounts pooled.link s ≡ None }
+{
+    let extract = sales(rt, alloc);
+    let query = by_region(rt, alloc, Measure::Rows, 2020, 2020);
+    let key = key_for(rt, alloc, &extract, &query);
+    let (pooled, statement) = readied(rt, alloc, pooled, &extract, &key, 1);
+    let pooled = run_short(rt, alloc, pooled, &statement);
+    let want = Want {
+        text: "from 0@1 where c1 among (2020) by c0 show rows",
+        runs: 2,
+        calls: 3,
+        table: "East|1|;West|1|;",
+    };
+    let _pooled = answered(rt, alloc, pooled, &extract, &query, &want);
+}
+
+#[test]
+fn long_lists_stand_in_tables(rt: HostRuntime) {
+    let alloc = rt.alloc();
+    let nothing = plan(&rt, alloc, &[], &[]);
+    let mut office = InOffice::new();
+    check_lists(&rt, alloc, first_link(&rt, alloc, &mut office, &nothing));
+    check_found(&rt, alloc, first_link(&rt, alloc, &mut office, &nothing));
+    check_full(&rt, alloc, first_link(&rt, alloc, &mut office, &nothing));
+}
+
+#[test]
+fn sure_links_never_fail(rt: HostRuntime) {
+    let alloc = rt.alloc();
+    let much = plan(&rt, alloc, &[1, 2], &[1, 2, 3]);
+    check_lists(&rt, alloc, first_link(&rt, alloc, &mut SureOffice::new(), &much));
+}
+
+#[test]
+fn planned_calls_fail(rt: HostRuntime) {
+    let alloc = rt.alloc();
+    let fails = plan(&rt, alloc, &[2], &[2]);
+    let dialer = InOffice::new().dialer(alloc, 1, &fails);
+    let mut dialer = dialer.ok().expect(&rt, "memory");
+    check_wreck(&rt, alloc, dialled(&rt, alloc, &mut dialer, 1));
+    assert_eq!(rt; dialer.dial(alloc).err(), Some(LinkFault::Failed));
+    check_lists(&rt, alloc, dialled(&rt, alloc, &mut dialer, 3));
+}
+
+#[test]
+fn a_short_call_finds_no_memory(rt: HostRuntime) {
+    let alloc = rt.alloc();
+    let nothing = plan(&rt, alloc, &[], &[]);
+    check_short(&rt, alloc, first_link(&rt, alloc, &mut ShortOffice::new(2), &nothing));
+    check_lists(&rt, alloc, first_link(&rt, alloc, &mut ShortOffice::new(9), &nothing));
 }

@@ -5,8 +5,8 @@ use crate::run::Ran;
 
 fn asks_send<T: Send>() {}
 
-/// Pooled links, wrecks, what is lost and both answers may go to another thread where their links may. The body is empty but
-/// for what it asks: that it is accepted is the fact.
+/// Pooled links, wrecks, what is lost and both answers may go to another thread where their links may. The body does nothing but
+/// ask: that it is accepted is the fact.
 pub fn links_may_be_sent<L: Link + Send>() {
     asks_send::<Pooled<L>>();
     asks_send::<Wreck<L>>();

@@ -1,9 +1,8 @@
 // Links that are made ready and run on a back end that only mounts. What is asked of tables, and what a run gives, is tested with a back
 // end that evaluates, in the crate above.
 ghost use Rattle.std.specs.Arc.{arc_value};
-ghost use Rattle.std.specs.Prelude.{◌≡◌, ◌<◌, ◌≤◌, ◌∷◌, [], None, Some};
+ghost use Rattle.std.specs.Prelude.{◌≡◌, ◌≤◌, ◌∷◌, [], None, IfSome};
 ghost use Rattle.dq_base.specs.declared.query.Measure.TheVariants.{Rows};
-ghost use Rattle.dq_link.specs.Mounts.{StandsFor};
 
 use super::*;
 use dq_base::{Canon, List, Measure, Query, Schema, Table, Values};
@@ -158,9 +157,9 @@ fn made_ready(
     extract: &Arc<Extract>,
 ) -> Pooled<Mounting>
     requires bare { (arc_value extract.now).heading.sorts ≡ [] }
-    requires stands { StandsFor (Mounting.mounts pooled.link) 0 (record { stamp = 1; version = arc_value extract.now }) }
+    requires stands { IfSome pooled.link.mounted (λ m. m ≡ record { stamp = 1; version = arc_value extract.now }) }
     requires room { pooled.link.calls ≤ 1 }
-    ensures stands { StandsFor (Mounting.mounts result.link) 0 (record { stamp = 1; version = arc_value extract.now }) }
+    ensures stands { IfSome result.link.mounted (λ m. m ≡ record { stamp = 1; version = arc_value extract.now }) }
     ensures room { result.link.calls ≤ 1 }
 {
     match pooled.ready(alloc, 1, extract, &count(rt, alloc)) {
