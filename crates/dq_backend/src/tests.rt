@@ -99,13 +99,7 @@ fn rows_in(rt: &impl Abort, alloc: Global, first: i64, last: i64) -> Query {
 }
 
 // A measure by region of some years.
-fn by_region(
-    rt: &impl Abort,
-    alloc: Global,
-    measure: Measure,
-    first: i64,
-    last: i64,
-) -> Query {
+fn by_region(rt: &impl Abort, alloc: Global, measure: Measure, first: i64, last: i64) -> Query {
     let mut dims = Dims::new(alloc);
     assert!(rt; dims.push(Dim::plain(0)).is_ok());
     Query {
@@ -118,8 +112,8 @@ fn by_region(
     }
 }
 
-fn schemas_of(rt: &impl Abort, alloc: Global, extract: &Extract) -> Schemas
-    ensures { result ≡ extract.now.heading ∷ [] }
+fn schemas_of(rt: &impl Abort, alloc: Global, extract: &Arc<Extract>) -> Schemas
+    ensures { result ≡ (arc_value extract.now).heading ∷ [] }
 {
     let mut schemas = Schemas::new(alloc);
     let schema = extract.schema().duplicate(alloc).ok().expect(rt, "memory");
@@ -130,8 +124,8 @@ fn schemas_of(rt: &impl Abort, alloc: Global, extract: &Extract) -> Schemas
 }
 
 // The key of a query that is valid for the extract.
-fn key_for(rt: &impl Abort, alloc: Global, extract: &Extract, query: &Query) -> Canon
-    ensures valid { first_reason extract.now.heading.sorts result ≡ None }
+fn key_for(rt: &impl Abort, alloc: Global, extract: &Arc<Extract>, query: &Query) -> Canon
+    ensures valid { first_reason (arc_value extract.now).heading.sorts result ≡ None }
     ensures source { result.source ≡ 0 }
 {
     let key = canonical(alloc, query).ok().expect(rt, "memory");
@@ -452,7 +446,11 @@ fn long_lists_stand_in_tables(rt: HostRuntime) {
 fn sure_links_never_fail(rt: HostRuntime) {
     let alloc = rt.alloc();
     let much = plan(&rt, alloc, &[1, 2], &[1, 2, 3]);
-    check_lists(&rt, alloc, first_link(&rt, alloc, &mut SureOffice::new(), &much));
+    check_lists(
+        &rt,
+        alloc,
+        first_link(&rt, alloc, &mut SureOffice::new(), &much),
+    );
 }
 
 #[test]
@@ -470,6 +468,14 @@ fn planned_calls_fail(rt: HostRuntime) {
 fn a_short_call_finds_no_memory(rt: HostRuntime) {
     let alloc = rt.alloc();
     let nothing = plan(&rt, alloc, &[], &[]);
-    check_short(&rt, alloc, first_link(&rt, alloc, &mut ShortOffice::new(2), &nothing));
-    check_lists(&rt, alloc, first_link(&rt, alloc, &mut ShortOffice::new(9), &nothing));
+    check_short(
+        &rt,
+        alloc,
+        first_link(&rt, alloc, &mut ShortOffice::new(2), &nothing),
+    );
+    check_lists(
+        &rt,
+        alloc,
+        first_link(&rt, alloc, &mut ShortOffice::new(9), &nothing),
+    );
 }
