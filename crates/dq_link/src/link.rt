@@ -10,7 +10,11 @@ use dq_extract::Extract;
 use std::alloc::Global;
 use std::sync::Arc;
 
-/// A connection to a back end, which holds versions of extracts and tables of values, and runs statements over them.
+/// A connection to a back end, which holds versions of extracts and tables of values, and runs statements over them. What its
+/// calls cost is the back end's.
+///
+/// `Failed` comes only where the count of faults rose in that call, or stands at its end, and tells nothing of what stands then.
+/// `Memory` changes nothing but the counts.
 pub trait Link: Drop {
     /// The version that is mounted for each source, and its stamp.
     ghost mounts: { Self → Mounts };

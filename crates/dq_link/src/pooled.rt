@@ -31,7 +31,7 @@ impl<L: Link> Model for Pooled<L> {
 }
 
 impl<L: Link> Pooled<L> {
-    /// A link as a dialer gives it, under a number. It takes no memory.
+    /// A link as a dialer gives it, under a number. It takes no memory, and the same time always.
     pub fn new(alloc: Global, number: u64, link: L) -> Pooled<L>
         requires { IsFresh (L.mounts link) (L.tables link) (L.faults link) (L.runs link) (L.calls link) }
         ensures { result ≡ record { number = number; link = link; mirror = no_mirror; last = None } }

@@ -24,7 +24,9 @@ pub enum Ran<L: Link> {
 }
 
 impl<L: Link> Pooled<L> {
-    /// Runs a statement, whose text has to mean something over what stands on the link.
+    /// Runs a statement, whose text has to mean something over what stands on the link. Where its text finds no memory, the link
+    /// isn't called, and its runs tell that. After `Done` and `Memory` the same stands as before. The cost is that of the text and
+    /// of the link's run.
     pub fn run(self, alloc: Global, s: &Statement) -> Ran<L>
         requires meaning { HasMeaning (L.mounts self.link) (L.tables self.link) (spelling s.now) }
         requires room { L.calls self.link < 2 ^ 40 }
