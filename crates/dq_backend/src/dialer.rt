@@ -11,7 +11,7 @@ use std::marker::Model;
 /// A dialer whose links are in memory. It fails in the dials that are planned, and in no other: its count of faults is the
 /// number of different planned dials from 1 to the number of its dials. Each link that it gives tells its planned call.
 ///
-/// A dial that can't be counted any more is `Memory`.
+/// A dial costs the length of the list of planned dials, and takes no memory. One that can't be counted any more is `Memory`.
 #[derive(Drop)]
 pub struct InDialer {
     plan: Fails,

@@ -2,9 +2,9 @@
 //! statements that they run.
 //!
 //! The layer above may rely on this: `InLink` and `InDialer` fail in the calls that are planned and nowhere else, which
-//! their counts of faults tell by definition. `SureLink` and `SureDialer` never fail, nor do `ShortLink` and
-//! `ShortDialer`, of which one call finds no memory. All forms answer a text by what it
-//! means: it is parsed, its lists are looked up in the tables, and its query is evaluated over the version that is mounted.
+//! their counts of faults tell by definition. `SureLink` and `SureDialer` never fail, nor do `ShortLink` and `ShortDialer`, of
+//! whose calls one finds no memory. All forms answer a text by what it means: it is parsed, its lists are looked up in the
+//! tables, and its query is evaluated over the version that is mounted.
 //!
 //! One call: `InOffice::new().dialer(alloc, 1, &fails)?.dial(alloc)?`.
 #![tactic(auto)]

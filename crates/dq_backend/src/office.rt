@@ -7,12 +7,13 @@ use dq_base::{Fails, Memory};
 use dq_link::Office;
 use std::alloc::Global;
 
-/// A back end in memory. What is wanted to fail in a lane fails there, and nothing else.
+/// A back end in memory. What is wanted to fail in a lane fails there, and nothing else. A lane's dialer costs the length of what is
+/// wanted to fail there, which it copies.
 #[derive(Drop)]
 pub struct InOffice;
 
 impl InOffice {
-    /// It takes no memory.
+    /// The back end. It takes no memory, and the same time always.
     pub fn new() -> InOffice {
         InOffice
     }

@@ -137,9 +137,8 @@ impl Link for ShortLink {
     }
 }
 
-/// A dialer that never fails and tells no plan. Of each link that it gives the call of one number finds no memory.
-///
-/// A link that can't be counted any more is `Memory`.
+/// A dialer that never fails and tells no plan. Of each link that it gives the call of one number finds no memory. It takes no memory
+/// itself. A link that can't be counted any more is `Memory`.
 #[derive(Drop)]
 pub struct ShortDialer {
     at: u64,
@@ -182,7 +181,7 @@ impl Dialer for ShortDialer {
 
 /// A sure back end, but for one call of each link, which finds no memory. It shows what want of memory leaves.
 ///
-/// Contracts see the call's number, which counts from 1; at 0 no call is short.
+/// Contracts see the call's number, which counts from 1; at 0 no call is short. Its dialers take no memory.
 #[derive(Drop)]
 pub struct ShortOffice {
     at: u64,
@@ -197,7 +196,7 @@ impl Model for ShortOffice {
 }
 
 impl ShortOffice {
-    /// A back end each of whose links finds no memory in the call of that number. It takes no memory.
+    /// A back end each of whose links finds no memory in the call of that number. It takes no memory, and the same time always.
     pub fn new(at: u64) -> ShortOffice
         ensures { result ≡ at }
     {

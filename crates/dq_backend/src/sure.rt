@@ -113,7 +113,7 @@ impl Link for SureLink {
     }
 }
 
-/// A dialer that never fails. A link that can't be counted any more is `Memory`.
+/// A dialer that never fails and tells no plan. It takes no memory. A link that can't be counted any more is `Memory`.
 #[derive(Drop)]
 pub struct SureDialer {
     given: u64,
@@ -137,12 +137,12 @@ impl Dialer for SureDialer {
     }
 }
 
-/// A back end in memory that never fails, whatever is wanted to.
+/// A back end in memory that never fails, whatever is wanted to. Its dialers take no memory.
 #[derive(Drop)]
 pub struct SureOffice;
 
 impl SureOffice {
-    /// It takes no memory.
+    /// The back end. It takes no memory, and the same time always.
     pub fn new() -> SureOffice {
         SureOffice
     }
