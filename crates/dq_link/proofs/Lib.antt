@@ -1,0 +1,13 @@
+pub mod Chains
+pub mod Growing
+pub mod Held
+pub mod Lookups
+pub mod Meant
+pub mod Mirroring
+pub mod Mounting
+pub mod Moving
+pub mod Needed
+pub mod OneMeaning
+pub mod Resolved
+pub mod Valid
+pub mod Worked

@@ -1,0 +1,9 @@
+pub mod Calls
+pub mod Meanings
+pub mod Mirrors
+pub mod Mounts
+pub mod Pairs
+pub mod Ran
+pub mod Readied
+pub mod Steps
+pub mod Views
