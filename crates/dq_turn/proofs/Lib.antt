@@ -1,0 +1,5 @@
+pub mod Journals
+pub mod Sums
+pub mod Books
+pub mod TurnSteps
+pub mod Openings
