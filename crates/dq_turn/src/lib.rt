@@ -12,6 +12,7 @@
 #![tactic(auto)]
 
 mod guard;
+mod lanes;
 mod plays;
 mod seats;
 mod steps;
