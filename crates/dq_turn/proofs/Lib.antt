@@ -4,3 +4,4 @@ pub mod Books
 pub mod TurnSteps
 pub mod LaneSteps
 pub mod Openings
+pub mod Endings

@@ -1,7 +1,8 @@
-ghost use Rattle.std.specs.Prelude.{◌≡◌, [], ◌∷◌, Some, IfOk, IfErr};
-ghost use Rattle.dq_turn.specs.Seen.{given, IsKeeperOf, handed, keeper_seen, joined};
+ghost use Rattle.std.specs.Prelude.{◌≡◌, ℕ, ◌<◌, [], ◌∷◌, Some, length, IfOk, IfErr};
+ghost use Rattle.dq_turn.specs.Made.{Begins, made};
+ghost use Rattle.dq_turn.specs.Seen.{given, IsKeeperOf, handed, keeper_seen, joined, AllStand};
 
-use crate::seats::{Keeper, Turnstile, Unmade};
+use crate::seats::{Closed, Keeper, Turnstile, Unmade};
 use atomic_table::{Refused, Table};
 use dq_journal::Chronicled;
 use std::alloc::Global;
@@ -49,5 +50,26 @@ impl<S: Chronicled> Turnstile<S> {
             Ok((table, seat)) => Ok((Turnstile { table }, Keeper { seat })),
             Err(Refused { slots }) => Err(state_of(slots, &about)),
         }
+    }
+
+    /// Gives the state back, once every lane's seat was joined. At `Err` there was no memory, and nothing has changed.
+    /// It takes a constant number of steps.
+    pub fn close(self, keeper: Keeper<S>) -> Result<S, Closed<S>>
+        requires of { IsKeeperOf self keeper }
+        requires all { length (joined keeper) ≡ handed keeper }
+        ensures loaded { IfOk result (λ s. S.loaded s ≡ S.loaded (given self)) }
+        ensures seen { IfOk result (λ s. Begins (keeper_seen keeper) (S.journal s)) }
+        ensures joined { IfOk result (λ s. AllStand (S.journal s) (joined keeper)) }
+        ensures others { IfOk result (λ s. (lane : ℕ) → (0 < lane → handed keeper < lane) → made lane (S.journal s) ≡ []) }
+        ensures err { IfErr result (λ c. (c.turnstile ≡ self) × (c.keeper ≡ keeper)) }
+    {
+        let Turnstile { table } = self;
+        let Keeper { seat } = keeper;
+        let mut closed = table.close_with(seat);
+        let Some(state) = closed.take(0) else {
+            unreachable!()
+        };
+        closed.free();
+        Ok(state)
     }
 }
