@@ -18,7 +18,7 @@ use Rattle.dq_turn.specs.declared.views.View.{View}
 use Rattle.dq_turn.specs.Made.{Begins, made}
 use Rattle.dq_turn.specs.Views.{spent, new_lane, handing, left_by, joining}
 use Rattle.dq_turn.specs.Turning.{Place, home, away, Book, tickets_at, tickets, lanes_at, lanes, KnowsStage, KnowsJoined, AllJoined, KnowsKeeper, KnowsLane, Knows, Lies, Kept, Turning}
-use Rattle.dq_turn.specs.Steps.{Sat, AllSeen, heard}
+use Rattle.dq_turn.specs.Steps.{Seated, AllSeen, heard}
 use Rattle.dq_turn.proofs.Journals.{begins_same, longer_begins, made_none}
 use Rattle.dq_turn.proofs.Sums.{put, put_here, put_else, below, at_push, each_set, sum_set}
 use Rattle.dq_turn.proofs.Books.{outside≢inside, lane_of_role, keeper_of_role, role_of_keeper, lane_moves, StillJoined, joined_move, moves, lies_else, unmoved}
@@ -198,7 +198,7 @@ module _ {S L : Type 0} (loaded : S → L) (journal : S → List Entry) where
   all_seen b seen [] all = tt
   all_seen b seen (j ∷ js) all = (all.0.seen, all_seen b seen js all.1)
 
-  pub hears : (n id i : ℕ) (me : Sat S) → me.0.role ≡ Keeper → Allows Rule n id me i (λ y. y) (λ r m. heard me m)
+  pub hears : (n id i : ℕ) (me : Seated S) → me.0.role ≡ Keeper → Allows Rule n id me i (λ y. y) (λ r m. heard me m)
   hears n id i me role s r wide at small =
       let mine = keeper_of_role loaded journal r.0 id me.0 role (r.1.each id me.0 at) in
       (me.0, keeps, tt, unmoved loaded journal s i id me.0 at r, (refl, mine.before, all_seen r.0 me.0.seen me.0.joined mine.joined))
@@ -208,7 +208,6 @@ module _ {S L : Type 0} (loaded : S → L) (journal : S → List Entry) where
   last_seen seen (i ∷ js) j all = last_seen seen js j all.1
 
   -- after a join the keeper has seen what either had seen
-  pub heard_both : (k w : View S) (m n : Sat S) → m.0 ≡ joining k w → heard m n → Begins k.seen n.0.seen × Begins w.seen n.0.seen
-  heard_both k w m n is h = subst (λ (z : Sat S). Begins k.seen z.0.seen × Begins w.seen z.0.seen) (sym h.0)
+  pub heard_both : (k w : View S) (m n : Seated S) → m.0 ≡ joining k w → heard m n → Begins k.seen n.0.seen × Begins w.seen n.0.seen
+  heard_both k w m n is h = subst (λ (z : Seated S). Begins k.seen z.0.seen × Begins w.seen z.0.seen) (sym h.0)
       (subst (λ (v : View S). Begins v.before m.0.seen) is h.1, last_seen m.0.seen k.joined (left_by w) (subst (λ (v : View S). AllSeen m.0.seen v.joined) is h.2))
-

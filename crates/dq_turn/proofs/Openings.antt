@@ -41,4 +41,3 @@ module _ {S L : Type 0} (loaded : S → L) (journal : S → List Entry) where
       others = λ lane none. refl;
     },
   )
-

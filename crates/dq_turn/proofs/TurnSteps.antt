@@ -16,7 +16,7 @@ use Rattle.dq_turn.specs.declared.views.View.{View}
 use Rattle.dq_turn.specs.Made.{Begins, made, Grows}
 use Rattle.dq_turn.specs.Views.{ticket_of, inside, is_waiting}
 use Rattle.dq_turn.specs.Turning.{Place, home, away, Book, tickets_at, tickets, lanes, Fits, KnowsStage, KnowsLane, Knows, Lies, Kept, Turning}
-use Rattle.dq_turn.specs.Steps.{Sat, in_turn, counting, drew, passed, Follows, Takes, watched, counted}
+use Rattle.dq_turn.specs.Steps.{Seated, in_turn, counting, drew, passed, Follows, Takes, watched, counted}
 use Rattle.dq_turn.proofs.Journals.{begins_same, grows_begins, grows_other}
 use Rattle.dq_turn.proofs.Sums.{put, put_here, put_else, below, one_at, each_set, sum_set}
 use Rattle.dq_turn.proofs.Books.{home≢away, one_holder, outside≢inside, waiting≢inside, lane_of_role, role_of_lane, stage_of, lane_moves, keeper_moves, moves, few_tickets, lies_else, unmoved}
@@ -32,7 +32,7 @@ module _ {S L : Type 0} (loaded : S → L) (journal : S → List Entry) where
   St = State (Option S) (View S)
 
   abbrev M : Type 0
-  M = Sat S
+  M = Seated S
 
   abbrev Rule : St → Type 0
   Rule = Turning loaded journal
@@ -154,8 +154,11 @@ module _ {S L : Type 0} (loaded : S → L) (journal : S → List Entry) where
         in_turn me.0 x,
         takes 0 (Some x),
         ap (λ hs. get_elem? hs 0) homes,
-        (taking b id, subst (λ (z : List ℕ × ℕ). Kept loaded journal (taking b id) record { words = z.0; homes = set s.homes 0 none; views = set s.views id (record me.0 { stage = Inside z.1 x }) })
-            (λ i. (sym (set-get_or s.words 1 0) i, sym same i)) (take_kept b s id me.0 t x k at role st turn homes place fits)),
+        (
+          taking b id,
+          subst (λ (z : List ℕ × ℕ). Kept loaded journal (taking b id) record { words = z.0; homes = set s.homes 0 none; views = set s.views id (record me.0 { stage = Inside z.1 x }) })
+              (λ i. (sym (set-get_or s.words 1 0) i, sym same i)) (take_kept b s id me.0 t x k at role st turn homes place fits),
+        ),
         ((λ _. (x, refl, follows b id me.0 x (lane_of_role loaded journal b id me.0 role (k.each id me.0 at)) fits k.short)), λ miss. never ((in_turn me.0 x, (0, Some x) ∷ me.1) ≡ me) (miss (hit ∙ ap (λ (z : ℕ). z % 2 ^ 64) (sym same)))),
       )
 
@@ -244,8 +247,11 @@ module _ {S L : Type 0} (loaded : S → L) (journal : S → List Entry) where
         counting me.0 y (journal y),
         keeps,
         tt,
-        (writing r.0 y, subst (λ (z : ℕ). Kept loaded journal (writing r.0 y) record { words = set s.words 2 ((get_or s.words 2 0 + k) % 2 ^ 64); homes = s.homes; views = set s.views id (record me.0 { stage = Inside z y; seen = journal y; own = made me.0.lane (journal y) }) })
-            (sym is) (write_kept r.0 s id me.0 t k x y r.1 at role st same grows more short)),
+        (
+          writing r.0 y,
+          subst (λ (z : ℕ). Kept loaded journal (writing r.0 y) record { words = set s.words 2 ((get_or s.words 2 0 + k) % 2 ^ 64); homes = s.homes; views = set s.views id (record me.0 { stage = Inside z y; seen = journal y; own = made me.0.lane (journal y) }) })
+              (sym is) (write_kept r.0 s id me.0 t k x y r.1 at role st same grows more short),
+        ),
         λ z hand'. ap (λ (u : S). (counting me.0 u (journal u), me.1)) (ap (state_or y) (sym hand ∙ hand')),
       )
 
@@ -291,8 +297,11 @@ module _ {S L : Type 0} (loaded : S → L) (journal : S → List Entry) where
     record me.0 { stage = Outside },
     gives,
     tt,
-    (passing r.0 y, subst (λ (hs : List (maybe.Option (Option S))). Kept loaded journal (passing r.0 y) record { words = set s.words 1 ((get_or s.words 1 0 + 1) % 2 ^ 64); homes = hs; views = set s.views id (record me.0 { stage = Outside }) })
-        (sym (ap (put_back s.homes) hand)) (pass_kept r.0 s id me.0 t y r.1 at role st)),
+    (
+      passing r.0 y,
+      subst (λ (hs : List (maybe.Option (Option S))). Kept loaded journal (passing r.0 y) record { words = set s.words 1 ((get_or s.words 1 0 + 1) % 2 ^ 64); homes = hs; views = set s.views id (record me.0 { stage = Outside }) })
+          (sym (ap (put_back s.homes) hand)) (pass_kept r.0 s id me.0 t y r.1 at role st),
+    ),
     refl,
   )
 

@@ -1,4 +1,12 @@
--- What each step tells. A seat is its view, and the slots that it holds.
+-- What each step tells its seat, which is its view and the slots that it holds.
+--
+-- | step | word | the seat |
+-- | draw | next grows by 1 | gets a ticket |
+-- | watch | now is loaded | where it is the ticket, the seat has the turn, and takes the slot |
+-- | out, home | none | reads and writes the slot that it took; its view stays |
+-- | count | length grows by what was added | has seen the journal of the state in the slot, and made its lane's entries there |
+-- | pass | now grows by 1 | loses its ticket, and gives the slot back |
+-- | hand out, take in, hear | next stays | the keeper and a lane's seat (`Views`); what the keeper then knows |
 use Rattle.std.specs.Prelude.{◌≡◌, ◌≢◌, ℕ, ◌%◌, ◌^◌, ◌≤◌, List, [], ◌∷◌, length, Option, Some}
 use Rattle.std.specs.Option.{option_map}
 use Rattle.atomic_table.specs.Table.{Me, rest}
@@ -9,8 +17,9 @@ use Rattle.dq_turn.specs.declared.views.View.{View}
 use Rattle.dq_turn.specs.Made.{Begins, made}
 use Rattle.dq_turn.specs.Views.{ticket_of}
 
-abbrev pub Sat : Type 0 → Type 0
-Sat S = Me (Option S) (View S)
+-- a seat: its view, and the slots that it holds
+abbrev pub Seated : Type 0 → Type 0
+Seated S = Me (Option S) (View S)
 
 -- the journals of the lanes that were joined begin what the keeper has seen
 abbrev pub AllSeen : List Entry → List Joined → Type 0
@@ -27,29 +36,33 @@ module _ {S : Type 0} where
   counting v x history = record v { stage = Inside (ticket_of v.stage) x; seen = history; own = made v.lane history }
 
   -- a ticket was drawn
-  abbrev pub drew : Sat S → ℕ → Sat S → Type 0
+  abbrev pub drew : Seated S → ℕ → Seated S → Type 0
   drew m r n = (t : ℕ) × (r ≡ t % 2 ^ 64) × (n ≡ (record m.0 { stage = Waiting t }, m.1))
 
   -- the turn is past
-  abbrev pub passed : Sat S → Sat S → Type 0
+  abbrev pub passed : Seated S → Seated S → Type 0
   passed m n = n ≡ (record m.0 { stage = Outside }, rest m.1)
 
   -- nothing moved, and what was seen began what is seen now
-  abbrev pub heard : Sat S → Sat S → Type 0
+  abbrev pub heard : Seated S → Seated S → Type 0
   heard m n = (n ≡ m) × Begins m.0.before m.0.seen × AllSeen m.0.seen m.0.joined
 
 module _ {S L : Type 0} (loaded : S → L) (journal : S → List Entry) where
-  -- a state with what was loaded, whose journal isn't too long, begins with what the seat has seen and has of its lane what the seat made
+  -- a state with what was loaded, whose journal isn't too long, begins with what the seat has seen, and has of its lane what
+  -- the seat made, all of which it has seen
   abbrev pub Follows : View S → S → Type 0
-  Follows v x = (option_map loaded v.given ≡ Some (loaded x)) × Begins v.seen (journal x) × (made v.lane (journal x) ≡ v.own) × (made v.lane v.seen ≡ v.own) × (length (journal x) ≤ 2 ^ 63)
+  Follows v x =
+      (option_map loaded v.given ≡ Some (loaded x)) × Begins v.seen (journal x)
+      × (made v.lane (journal x) ≡ v.own) × (made v.lane v.seen ≡ v.own) × (length (journal x) ≤ 2 ^ 63)
 
-  abbrev pub Takes : Sat S → Sat S → Type 0
+  -- the seat takes the slot, with such a state in it
+  abbrev pub Takes : Seated S → Seated S → Type 0
   Takes m n = (x : S) × (n ≡ (in_turn m.0 x, (0, Some x) ∷ m.1)) × Follows m.0 x
 
   -- the seat has the turn where its ticket was found, and it takes the state
-  abbrev pub watched : Sat S → ℕ → Sat S → Type 0
+  abbrev pub watched : Seated S → ℕ → Seated S → Type 0
   watched m r n = (r ≡ ticket_of m.0.stage % 2 ^ 64 → Takes m n) × (r ≢ ticket_of m.0.stage % 2 ^ 64 → n ≡ m)
 
   -- the journal of the state that the seat has put back is the history
-  abbrev pub counted : Sat S → Sat S → Type 0
+  abbrev pub counted : Seated S → Seated S → Type 0
   counted m n = (x : S) → m.1 ≡ (0, Some x) ∷ [] → n ≡ (counting m.0 x (journal x), m.1)

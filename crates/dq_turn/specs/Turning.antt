@@ -57,6 +57,7 @@ module _ {S L : Type 0} (loaded : S → L) (journal : S → List Entry) (b : Boo
   abbrev pub Fits : S → Type 0
   Fits x = (journal x ≡ b.log) × (loaded x ≡ b.first)
 
+  -- a ticket is between now and next and its owner's; who has the turn has the ticket of now, and its state is the last one
   abbrev pub KnowsStage : ℕ → Stage S → Type 0
   KnowsStage id Outside = Unit {0}
   KnowsStage id (Waiting t) = (b.passed ≤ t) × (t < b.drawn) × (b.owner t ≡ id)
@@ -73,6 +74,7 @@ module _ {S L : Type 0} (loaded : S → L) (journal : S → List Entry) (b : Boo
   AllJoined seen [] = Unit {0}
   AllJoined seen (j ∷ js) = KnowsJoined seen j × AllJoined seen js
 
+  -- the keeper is the first seat
   pub record KnowsKeeper (id : ℕ) (v : View S) : Type 0 where
     pub id_is : id ≡ 0
     pub given : option_map loaded v.given ≡ Some b.first
@@ -82,6 +84,7 @@ module _ {S L : Type 0} (loaded : S → L) (journal : S → List Entry) (b : Boo
     pub before : Begins v.before v.seen
     pub joined : AllJoined v.seen v.joined
 
+  -- the seat of a lane: of its lane the history has what it made, all of which it has seen
   pub record KnowsLane (id : ℕ) (v : View S) : Type 0 where
     pub not_keeper : 0 < id
     pub given : option_map loaded v.given ≡ Some b.first
@@ -100,11 +103,14 @@ module _ {S L : Type 0} (loaded : S → L) (journal : S → List Entry) (b : Boo
   abbrev pub Knows : ℕ → View S → Type 0
   Knows id v = KnowsAs v.role id v
 
-  -- where the slot is empty, a lane's seat has the turn
+  -- the slot has the state, or a lane's seat has the turn and holds the slot
   abbrev pub Lies : List (maybe.Option (Option S)) → List (View S) → Place S → Type 0
   Lies homes views (home x) = (homes ≡ some (Some x) ∷ []) × Fits x
-  Lies homes views (away h) = (homes ≡ none ∷ []) × ((v : View S) × (t : ℕ) × (x : S) × (get_elem? views h ≡ some v) × (v.role ≡ Lane) × (v.stage ≡ Inside t x))
+  Lies homes views (away h) =
+      (homes ≡ none ∷ [])
+      × ((v : View S) × (t : ℕ) × (x : S) × (get_elem? views h ≡ some v) × (v.role ≡ Lane) × (v.stage ≡ Inside t x))
 
+  -- what is kept between any two steps. A lane that isn't handed out has no entry
   pub record Kept (s : State (Option S) (View S)) : Type 0 where
     pub words : s.words ≡ (b.drawn % 2 ^ 64) ∷ (b.passed % 2 ^ 64) ∷ length b.log ∷ []
     pub short : length b.log ≤ 2 ^ 63
@@ -115,6 +121,6 @@ module _ {S L : Type 0} (loaded : S → L) (journal : S → List Entry) (b : Boo
     pub each : (id : ℕ) (v : View S) → get_elem? s.views id ≡ some v → Knows id v
     pub others : (lane : ℕ) → (0 < lane → b.handed < lane) → made lane b.log ≡ []
 
--- the rule
+-- the rule: there is a book of which all that is kept
 abbrev pub Turning : {S L : Type 0} → (S → L) → (S → List Entry) → State (Option S) (View S) → Type 0
 Turning {S} {L} loaded journal s = (b : Book S L) × Kept loaded journal b s

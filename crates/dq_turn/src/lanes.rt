@@ -38,7 +38,8 @@ impl<S: Chronicled> Turnstile<S> {
         ensures joined { joined keeper.new ≡ joined keeper.old ++ left_of seat ∷ [] }
     {
         let LaneSeat { seat } = seat;
-        self.table.shared.join_seat::<TakeIn>(&mut keeper.seat, seat);
-        self.table.shared.load::<Hear>(&mut keeper.seat, NEXT);
+        let shared = &self.table.shared;
+        shared.join_seat::<TakeIn>(&mut keeper.seat, seat);
+        shared.load::<Hear>(&mut keeper.seat, NEXT);
     }
 }

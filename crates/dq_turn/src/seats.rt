@@ -55,12 +55,15 @@ pub struct Guard<S: Chronicled> {
 /// There was no memory for a turnstile. The state comes back.
 #[derive(Drop)]
 pub struct Unmade<S> {
+    /// The state that was given.
     pub state: S,
 }
 
 /// There was no memory to close a turnstile. Both come back as they were.
 #[derive(Drop)]
 pub struct Closed<S: Chronicled> {
+    /// The turnstile, which still holds the state.
     pub turnstile: Turnstile<S>,
+    /// Its keeper.
     pub keeper: Keeper<S>,
 }

@@ -1,4 +1,4 @@
-//! The steps of a turn, one function each. A seat that has the turn holds the slot.
+//! The steps of a turn, one function each, in their order. A seat that has the turn holds the slot.
 ghost use Rattle.std.specs.Prelude.{◌≡◌, ℕ, ◌+◌, ◌%◌, ◌≤◌, ◌^◌, [], ◌∷◌, Some, None, length};
 ghost use Rattle.dq_turn.specs.declared.views.Role.TheVariants.{Lane};
 ghost use Rattle.dq_turn.specs.declared.views.Stage.TheVariants.{Outside, Waiting, Inside};
