@@ -1,4 +1,4 @@
-//! The journal of a run, and the results of its steps and zones.
+//! The journal of a run, and the results of its steps and zones; and `Chronicled`, which a state meets that keeps a journal.
 #![tactic(auto)]
 
 mod chronicled;
