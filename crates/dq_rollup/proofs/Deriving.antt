@@ -229,8 +229,8 @@ module _ (p q : Query) (rows : List (List Value)) (filters : list_all (implied q
       read_all held e read h reads =
           over_groups held e read
           ∙ big_same op unit _ _ ks (each_then (IsGroup p theirs) (λ k. cond (belongs (group_row p theirs k)) (read (group_row p theirs k)) unit ≡ cond (ok k) (big op unit h (rows_with p.dims k theirs)) unit)
-              (λ k g. ap (λ b. cond b (read (group_row p theirs k)) unit) (belongs_key k (map (λ m. fold_of m (rows_with p.dims k theirs)) p.measures) g.real) ∙ ap (λ m. cond (ok k) m unit) (reads k g))
-              ks (all_groups p theirs))
+          (λ k g. ap (λ b. cond b (read (group_row p theirs k)) unit) (belongs_key k (map (λ m. fold_of m (rows_with p.dims k theirs)) p.measures) g.real) ∙ ap (λ m. cond (ok k) m unit) (reads k g))
+          ks (all_groups p theirs))
           ∙ over_rows h
 
       fold_all : (held : List (List Cell)) → held ≡ ascending (row_cmp p) (plain p rows) → (read : List Cell → M) (h : List Value → M)
@@ -267,7 +267,7 @@ module _ (p q : Query) (rows : List (List Value)) (filters : list_all (implied q
           let first = kept_first (λ row. has key_cmp ks (key_of p.dims row)) (λ row. ok (key_of p.dims row)) theirs y ys e (keys_complete p.dims theirs) in
           big_same ◌+◌ 0 (λ k. cond (ok k) m 0) (λ k. cond (is_eq (key_cmp k (key_of p.dims y))) m 0) ks
           (each_then (IsReal p.dims) (λ k. cond (ok k) m 0 ≡ cond (is_eq (key_cmp k (key_of p.dims y))) m 0)
-              (λ k r. ap (λ b. cond b m 0) (ap ok r.key ∙ one_key r.row y first.0 ∙ ap (λ x. is_eq (key_cmp x (key_of p.dims y))) (sym r.key))) ks (keys_real p.dims theirs))
+          (λ k r. ap (λ b. cond b m 0) (ap ok r.key ∙ one_key r.row y first.0 ∙ ap (λ x. is_eq (key_cmp x (key_of p.dims y))) (sym r.key))) ks (keys_real p.dims theirs))
           ∙ point ◌+◌ 0 counts key_cmp keys_total exact_keys (key_of p.dims y) m ks (ascends_keys p.dims theirs)
           ∙ ap (λ b. cond b m 0) first.1
 
@@ -299,14 +299,14 @@ module _ (p q : Query) (rows : List (List Value)) (filters : list_all (implied q
       different_is c i s =
           different_set (λ row. value_of (cell_in row i)) [] group
           ∙ same_lists value_cmp value_cmp_total exact_values (set_of value_cmp (filter is_present (map (λ row. value_of (cell_in row i)) group))) (set_of value_cmp (present c ours))
-              (ascends_set_of value_cmp value_cmp_total (filter is_present (map (λ row. value_of (cell_in row i)) group))) (ascends_set_of value_cmp value_cmp_total (present c ours))
-              (λ v.
-                any_set_of (λ y. is_eq (value_cmp v y)) value_cmp exact_values (filter is_present (map (λ row. value_of (cell_in row i)) group))
-                ∙ any_read (λ y. is_eq (value_cmp v y)) (λ row. value_of (cell_in row i)) group
-                ∙ read_all ◌||◌ false tests held is_held (λ row. is_present (value_of (cell_in row i)) && is_eq (value_cmp v (value_of (cell_in row i)))) (λ row. is_present (value_at row c) && is_eq (value_cmp v (value_at row c)))
-                    (λ k g. any_keyed p theirs k g.real (g.filled i (plain_of c) s) (λ y. is_present y && is_eq (value_cmp v y)) c i s)
-                ∙ sym (any_big c (λ y. is_eq (value_cmp v y)) ours)
-                ∙ sym (any_set_of (λ y. is_eq (value_cmp v y)) value_cmp exact_values (present c ours)))
+          (ascends_set_of value_cmp value_cmp_total (filter is_present (map (λ row. value_of (cell_in row i)) group))) (ascends_set_of value_cmp value_cmp_total (present c ours))
+          (λ v.
+          any_set_of (λ y. is_eq (value_cmp v y)) value_cmp exact_values (filter is_present (map (λ row. value_of (cell_in row i)) group))
+          ∙ any_read (λ y. is_eq (value_cmp v y)) (λ row. value_of (cell_in row i)) group
+          ∙ read_all ◌||◌ false tests held is_held (λ row. is_present (value_of (cell_in row i)) && is_eq (value_cmp v (value_of (cell_in row i)))) (λ row. is_present (value_at row c) && is_eq (value_cmp v (value_at row c)))
+          (λ k g. any_keyed p theirs k g.real (g.filled i (plain_of c) s) (λ y. is_present y && is_eq (value_cmp v y)) c i s)
+          ∙ sym (any_big c (λ y. is_eq (value_cmp v y)) ours)
+          ∙ sym (any_set_of (λ y. is_eq (value_cmp v y)) value_cmp exact_values (present c ours)))
 
       own_is : (c i : ℕ) → IsShown p (measure.Distinct c) i → same_dims p q ≡ true → total_count (Shown i) group ≡ length (set_of value_cmp (present c ours))
       own_is c i s alike =
@@ -314,12 +314,12 @@ module _ (p q : Query) (rows : List (List Value)) (filters : list_all (implied q
           fold_big ◌+◌ 0 counts (counted (Shown i)) group
           ∙ over_groups ◌+◌ 0 counts held is_held (counted (Shown i))
           ∙ big_same ◌+◌ 0 _ (λ k. cond (ok k) (n ours) 0) ks
-              (each_then (IsReal p.dims) (λ k. cond (belongs (group_row p theirs k)) (counted (Shown i) (group_row p theirs k)) 0 ≡ cond (ok k) (n ours) 0)
-                  (λ k r.
-                    ap (λ b. cond b (counted (Shown i) (group_row p theirs k)) 0) (belongs_key k (map (λ m. fold_of m (rows_with p.dims k theirs)) p.measures) r)
-                    ∙ ap (λ m. cond (ok k) m 0) (ap number_in (shown p theirs k r (measure.Distinct c) i s))
-                    ∙ when (ok k) (n (rows_with p.dims k theirs)) (n ours) (λ e. ap n (own_rows alike k r e)))
-                  ks (keys_real p.dims theirs))
+          (each_then (IsReal p.dims) (λ k. cond (belongs (group_row p theirs k)) (counted (Shown i) (group_row p theirs k)) 0 ≡ cond (ok k) (n ours) 0)
+          (λ k r.
+          ap (λ b. cond b (counted (Shown i) (group_row p theirs k)) 0) (belongs_key k (map (λ m. fold_of m (rows_with p.dims k theirs)) p.measures) r)
+          ∙ ap (λ m. cond (ok k) m 0) (ap number_in (shown p theirs k r (measure.Distinct c) i s))
+          ∙ when (ok k) (n (rows_with p.dims k theirs)) (n ours) (λ e. ap n (own_rows alike k r e)))
+          ks (keys_real p.dims theirs))
           ∙ once_by alike (n ours) ours ours_are (λ e. ap n e)
 
       cell_is : (m : Measure) (s : Source) → IsSource p q m s → cell_over group s ≡ fold_of m ours
@@ -381,13 +381,13 @@ module _ (p q : Query) (rows : List (List Value)) (filters : list_all (implied q
         let ys = map (key_of q.dims) (kept q rows) in
         same_lists key_cmp keys_total exact_keys (set_of key_cmp xs) (set_of key_cmp ys) (ascends_set_of key_cmp keys_total xs) (ascends_set_of key_cmp keys_total ys)
         (λ key.
-          any_set_of (λ y. is_eq (key_cmp key y)) key_cmp exact_keys xs
-          ∙ any_mapped (λ y. is_eq (key_cmp key y)) (made_key plan.made) (filter (is_kept plan) held)
-          ∙ any_left (λ row. is_eq (key_cmp key (made_key plan.made row))) (is_kept plan) held
-          ∙ read_all key ◌||◌ false tests held is_held (λ row. true) (λ row. true) (λ k g. any_row p theirs k g.real (g.filled i d there))
-          ∙ sym (any_one (λ row. is_eq (key_cmp key (key_of q.dims row))) (kept q rows))
-          ∙ sym (any_mapped (λ y. is_eq (key_cmp key y)) (key_of q.dims) (kept q rows))
-          ∙ sym (any_set_of (λ y. is_eq (key_cmp key y)) key_cmp exact_keys ys))
+        any_set_of (λ y. is_eq (key_cmp key y)) key_cmp exact_keys xs
+        ∙ any_mapped (λ y. is_eq (key_cmp key y)) (made_key plan.made) (filter (is_kept plan) held)
+        ∙ any_left (λ row. is_eq (key_cmp key (made_key plan.made row))) (is_kept plan) held
+        ∙ read_all key ◌||◌ false tests held is_held (λ row. true) (λ row. true) (λ k g. any_row p theirs k g.real (g.filled i d there))
+        ∙ sym (any_one (λ row. is_eq (key_cmp key (key_of q.dims row))) (kept q rows))
+        ∙ sym (any_mapped (λ y. is_eq (key_cmp key y)) (key_of q.dims) (kept q rows))
+        ∙ sym (any_set_of (λ y. is_eq (key_cmp key y)) key_cmp exact_keys ys))
 
     keys_by_dims : (ds : List Dimension) (ms : List Made) → q.dims ≡ ds → plan.made ≡ ms → Paired (IsMade p.dims) ds ms → keys_in plan held ≡ keys q rows
     keys_by_dims [] [] ed em h =

@@ -56,7 +56,7 @@ pub fails_here : (fs : List Predicate) (places : List (Option ℕ)) (row : List 
 fails_here fs places row i f o b h ef eo eb n e =
     sym n ∙ eb ∙ ap (λ g. passes_one g o row) ef ∙ ap (λ u. passes_one (slice_index_or fs i f) u row) eo
     ∙ stopped (passes_one (slice_index_or fs i f) (spot_in (slice_get places i)) row) (passes (drop (suc i) fs) (drop (suc i) places) row)
-        (sym (ap (λ g. passes_one g o row) ef ∙ ap (λ u. passes_one (slice_index_or fs i f) u row) eo) ∙ sym eb ∙ n)
+    (sym (ap (λ g. passes_one g o row) ef ∙ ap (λ u. passes_one (slice_index_or fs i f) u row) eo) ∙ sym eb ∙ n)
     ∙ sym (passes_step fs places row i f h) ∙ e
 
 pub holds_here : (fs : List Predicate) (places : List (Option ℕ)) (row : List Cell) (i : ℕ) (f : Predicate) (o : Option ℕ) (b : Bool) → i < length fs → f ≡ slice_index_or fs i f → o ≡ spot_in (slice_get places i)

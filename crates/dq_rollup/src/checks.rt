@@ -88,12 +88,7 @@ fn test_holds(test: &Test, v: &Value) -> bool
 }
 
 /// Whether a predicate's test holds of a held row's value at a place; true without a place.
-fn passes_one(
-    alloc: Global,
-    f: &Predicate,
-    spot: Option<u64>,
-    row: &Cells,
-) -> Result<bool, Memory>
+fn passes_one(alloc: Global, f: &Predicate, spot: Option<u64>, row: &Cells) -> Result<bool, Memory>
     requires { canonical_test f.now.test ≡ f.now.test }
     ensures { IfOk result (λ passed. passed ≡ keys.passes_one f.now spot row.now) }
 {

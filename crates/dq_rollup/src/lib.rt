@@ -18,3 +18,6 @@ mod source;
 mod sources;
 
 pub use derivation::derive;
+
+#[cfg(test)]
+mod tests;

@@ -21,12 +21,7 @@ fn counted_at(alloc: Global, part: Part, held: &Table, place: u64) -> Result<u64
     }
 }
 
-fn summed_at(
-    alloc: Global,
-    part: Part,
-    held: &Table,
-    place: u64,
-) -> Result<Option<i128>, Memory>
+fn summed_at(alloc: Global, part: Part, held: &Table, place: u64) -> Result<Option<i128>, Memory>
     ensures { IfOk result (λ sum. sum ≡ reading.summed part (slice_index_or held.now place [])) }
 {
     match held.get(place) {

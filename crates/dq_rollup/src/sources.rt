@@ -56,7 +56,10 @@ fn shown_at(p: &Query, m: Measure) -> Result<Option<u64>, Memory>
 fn keyed_by(p: &Query, c: u32) -> Result<Part, Memory>
     ensures { IfOk result (λ part. (cover.groups_by p.now c && cover.shows p.now Rows) ≡ true → IsKeyed p.now c part) }
 {
-    match (plain_place(p.dims.as_slice(), c), shown_at(p, Measure::Rows)?) {
+    match (
+        plain_place(p.dims.as_slice(), c),
+        shown_at(p, Measure::Rows)?,
+    ) {
         (Some(key), Some(rows)) => Ok(Part::Keyed(key, rows)),
         _ => Ok(Part::Shown(0)),
     }

@@ -21,6 +21,6 @@ pub returns-in_ok-counts_of-in-Avg : goal.returns-in_ok-counts_of-in-Avg
 returns-in_ok-counts_of-in-Avg c q =
     let P : Measure → Type 0 = λ m. list_all (gives c.args.p.now q) (needs m) ≡ true → IsSource c.args.p.now q m (source.Average c.in_ok-sums_of-in-Avg.field-0 c.in_ok-counts_of-in-Avg.field-0) in
     subst P (sym c.in-Avg.is) (λ h. (
-        c.in_ok-sums_of-in-Avg.ensures q (and_left (gives c.args.p.now q (Total c.in-Avg.c)) _ h),
-        c.in_ok-counts_of-in-Avg.ensures q (and_left (gives c.args.p.now q (Filled c.in-Avg.c)) true (and_right (gives c.args.p.now q (Total c.in-Avg.c)) _ h)),
+      c.in_ok-sums_of-in-Avg.ensures q (and_left (gives c.args.p.now q (Total c.in-Avg.c)) _ h),
+      c.in_ok-counts_of-in-Avg.ensures q (and_left (gives c.args.p.now q (Filled c.in-Avg.c)) true (and_right (gives c.args.p.now q (Total c.in-Avg.c)) _ h)),
     ))

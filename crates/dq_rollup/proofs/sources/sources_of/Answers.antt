@@ -18,6 +18,8 @@ needs_at : (p q : Query) (ms : List Measure) (i : ℕ) (d : Measure) → ms ≡ 
 needs_at p q ms i d e h a = all_at (λ m. list_all (gives p q) (needs m)) ms i d h (ap (list_all (λ m. list_all (gives p q) (needs m))) e ∙ a)
 
 pub loop-m-preserved : goal.loop-m-preserved
-loop-m-preserved c = (c.loop-m.invariant.0,
-    paired_more (IsSource c.args.p.now c.args.q.now) c.as_slice-m-items.result.now c.loop-m.m-index Rows c.loop-m.sources c.push.new.self c.in_ok-source_of.field-0
-    c.loop-m-test.true c.loop-m.invariant.1 c.in_ok-push.ensures.ok (c.in_ok-source_of.ensures c.args.q.now (needs_at c.args.p.now c.args.q.now c.as_slice-m-items.result.now c.loop-m.m-index Rows c.as_slice-m-items.ensures c.loop-m-test.true c.requires)))
+loop-m-preserved c = (
+  c.loop-m.invariant.0,
+  paired_more (IsSource c.args.p.now c.args.q.now) c.as_slice-m-items.result.now c.loop-m.m-index Rows c.loop-m.sources c.push.new.self c.in_ok-source_of.field-0
+      c.loop-m-test.true c.loop-m.invariant.1 c.in_ok-push.ensures.ok (c.in_ok-source_of.ensures c.args.q.now (needs_at c.args.p.now c.args.q.now c.as_slice-m-items.result.now c.loop-m.m-index Rows c.as_slice-m-items.ensures c.loop-m-test.true c.requires)),
+)
