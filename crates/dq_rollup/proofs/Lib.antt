@@ -1,6 +1,7 @@
 pub mod Adding
 pub mod Bands
 pub mod Big
+pub mod Bounded
 pub mod Cells
 pub mod Deriving
 pub mod Extents

@@ -54,10 +54,14 @@ fn derive_answer(alloc: Global, p: &Query, q: &Query, held: &Table) -> Result<Ta
 
 /// The answer of q, derived from a table that is the answer of p.
 ///
-/// The condition is that p covers q. Over whatever rows the table is the answer of p, the result is the answer of q; of a
-/// table that is the answer of p over no rows, nothing is claimed. An `Err` says that memory was wanting, also where a sum
-/// goes beyond 128 bits or an average beyond the bounds of a ratio: over at most 2^23 rows of 64-bit numbers neither comes.
-/// The cost: each held row a look-up among the groups of q and a reading for each of its measures, and a sort of the groups.
+/// The condition is that p covers q. Over whatever rows the table is the answer of p, an Ok is the answer of q over these
+/// rows; where there are no such rows, nothing is claimed of it. An `Err` says that memory was wanting, also where a number
+/// goes beyond its type: counts of 64 bits, sums of 128 bits, and the bounds of a ratio. None does over at most 2^23 rows of
+/// 64-bit numbers (`sums_stay_within`). An `Err` leaves nothing behind.
+///
+/// The cost: each held row a look-up among the groups of q, a test for each of q's predicates that halves its list, and a
+/// reading for each of q's measures; then a sort of the groups. Before that, the measures of p and q are compared in pairs,
+/// and so are their dimensions. Where p has a top, the table is copied.
 pub fn derive(alloc: Global, p: &Canon, q: &Canon, held: &Table) -> Result<Table, Memory>
     requires { cover.covers p.now q.now ≡ true }
     ensures { IfOk result (λ table. (rows : ListOf (ListOf ValueOf)) → held.now ≡ answer p.now rows → table ≡ answer q.now rows) }

@@ -11,6 +11,7 @@ mod copies;
 mod derivation;
 mod groups;
 mod key;
+mod laws;
 mod measures;
 mod order;
 mod reading;
@@ -18,6 +19,7 @@ mod source;
 mod sources;
 
 pub use derivation::derive;
+pub use laws::sums_stay_within;
 
 #[cfg(test)]
 mod tests;

@@ -2,7 +2,7 @@ ghost use Rattle.std.specs.Prelude.{◌≡◌, IfOk, map};
 ghost use Rattle.dq_base.specs.Canonical.{canonical_predicate, predicate_cmp};
 ghost use Rattle.dq_base.specs.Sets.{set_of};
 
-use crate::derive;
+use crate::{derive, sums_stay_within};
 use dq_base::{
     Canon, Cell, Cells, Dim, Dims, List, Measure, Memory, OrderKey, OrderKeys, Predicate,
     Predicates, Query, Ratio, Table, Test, Text, Value,
@@ -246,6 +246,7 @@ fn rows_and_sums(rt: HostRuntime) -> Result<(), Fail> {
         },
     ];
     check(&rt, rt.alloc(), &cases)?;
+    sums_stay_within();
     Ok(())
 }
 
