@@ -1,9 +1,9 @@
 -- What stands at the places of a held row.
-use Rattle.std.proofs.Common.{◌≡◌, ℕ, zero, suc, ◌+◌, ◌*◌, Bool, true, false, not, ◌||◌, ◌&&◌, List, [], ◌∷◌, ◌++◌, map, length, refl, sym, ap, ◌∙◌, Option, Some, None, nat_eq, arith}
+use Rattle.std.proofs.Common.{◌≡◌, ℕ, zero, suc, ◌+◌, Bool, true, not, ◌||◌, ◌&&◌, List, [], ◌∷◌, ◌++◌, map, length, refl, sym, ap, ◌∙◌, Option, Some, None, nat_eq, arith}
 use Rattle.std.specs.Prelude.{slice_get}
 use Rattle.std.specs.List.{list_any, list_all}
 use Rattle.dq_base.specs.Answers.{cell_of, key_of, value_in}
-use Rattle.dq_base.specs.Covering.{groups_by, made_of}
+use Rattle.dq_base.specs.Covering.{groups_by}
 use Rattle.dq_base.specs.Dims.{Dimension, banded, is_plain, plain, width_of}
 use Rattle.dq_base.specs.Filters.{holds, value_at}
 use Rattle.dq_base.specs.declared.value.Value.{Value}

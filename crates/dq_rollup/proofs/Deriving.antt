@@ -1,11 +1,11 @@
 -- The rows that are derived from an answer are those of the other query's answer.
-use Rattle.std.proofs.Common.{◌≡◌, ℕ, ℤ, zero, suc, pos, ◌+◌, ◌-◌, Bool, true, false, ◌||◌, ◌&&◌, cond, List, [], ◌∷◌, ◌++◌, map, length, ◌⊎◌, inl, inr, refl, sym, ap, ◌∙◌, subst, Option, Some, None, arith}
+use Rattle.std.proofs.Common.{◌≡◌, ℕ, suc, pos, ◌+◌, ◌-◌, Bool, true, false, ◌||◌, ◌&&◌, cond, List, [], ◌∷◌, ◌++◌, map, length, ◌⊎◌, inl, inr, refl, sym, ap, ◌∙◌, Some, None, arith}
 use Rattle.std.specs.Prelude.{slice_get, is_none}
 use Rattle.std.specs.List.{filter, fold, list_all, list_any}
 use Rattle.std.specs.Ordering.{is_eq}
 use Rattle.std.proofs.lemmas.Cmp.{eq_by_cmp_equiv}
 use Rattle.dq_base.specs.Answers.{answer, average_of, cell_of, count_cell, first_rows, fold_of, greatest_of, group_row, is_present, key_of, keys, keys_of, least_of, plain, present, row_cmp, rows_with, sum_of, total, value_in}
-use Rattle.dq_base.specs.Covering.{all_in_dims, checkable, covers, gives, implied, makes, needs, query_eq, same_dims}
+use Rattle.dq_base.specs.Covering.{all_in_dims, checkable, covers, implied, makes, query_eq, same_dims}
 use Rattle.dq_base.specs.Dims.{Dimension, dim_eq}
 use Rattle.dq_base.specs.Dims.{plain as plain_of}
 use Rattle.dq_base.specs.Filters.{keeps, kept, value_at}
@@ -13,7 +13,7 @@ use Rattle.dq_base.specs.Orders.{key_cmp, value_cmp}
 use Rattle.dq_base.specs.Sets.{ascending, has, set_of, with}
 use Rattle.dq_base.specs.ValueOrder.{value_cmp_total}
 use Rattle.dq_base.proofs.Exact.{exact_keys, exact_values}
-use Rattle.dq_base.proofs.SetLaws.{Ascends, Each, ascends_set_of}
+use Rattle.dq_base.proofs.SetLaws.{Each, ascends_set_of}
 use Rattle.dq_base.proofs.SetTests.{any_set_of}
 use Rattle.dq_base.specs.declared.value.Value.{Value}
 use Rattle.dq_base.specs.declared.value.Value.TheVariants as value

@@ -1,5 +1,5 @@
 -- Held rows by their keys, one after another.
-use Rattle.std.proofs.Common.{◌≡◌, ℕ, zero, suc, ◌+◌, ◌<◌, Bool, true, false, not, ◌||◌, ◌&&◌, cond, if◌then◌else◌, List, [], ◌∷◌, ◌++◌, ◌⊎◌, inl, inr, map, length, drop, slice_index_or, refl, sym, ap, ◌∙◌, subst, Option, Some, None, add-one, arith, take, take_all, ◌≤◌}
+use Rattle.std.proofs.Common.{◌≡◌, ℕ, zero, suc, ◌+◌, ◌<◌, Bool, true, false, ◌||◌, ◌&&◌, cond, if◌then◌else◌, List, [], ◌∷◌, ◌++◌, inl, inr, map, length, drop, slice_index_or, refl, sym, ap, ◌∙◌, subst, Option, Some, None, add-one, arith, take, take_all, ◌≤◌}
 use Rattle.std.specs.Prelude.{slice_get}
 use Rattle.std.specs.List.{filter, fold, list_any}
 use Rattle.std.specs.declared.cmp.Ordering.{Ordering}

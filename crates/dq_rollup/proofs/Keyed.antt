@@ -1,5 +1,5 @@
 -- The keys of rows, and the rows of each key.
-use Rattle.std.proofs.Common.{◌≡◌, ℕ, Bool, true, false, ◌||◌, ◌&&◌, cond, List, [], ◌∷◌, map, refl, sym, ap, ◌∙◌, Option, Some, None}
+use Rattle.std.proofs.Common.{◌≡◌, ℕ, Bool, true, false, ◌||◌, cond, List, [], ◌∷◌, map, refl, ap, ◌∙◌, Some}
 use Rattle.std.specs.Prelude.{slice_get}
 use Rattle.std.specs.List.{filter, list_all, list_any}
 use Rattle.std.specs.Ordering.{is_eq}
@@ -7,7 +7,7 @@ use Rattle.std.proofs.lemmas.Cmp.{eq_by_cmp_equiv}
 use Rattle.dq_base.specs.Answers.{key_of, keys_of}
 use Rattle.dq_base.specs.Dims.{Dimension}
 use Rattle.dq_base.specs.Orders.{key_cmp}
-use Rattle.dq_base.specs.Sets.{has, set_of}
+use Rattle.dq_base.specs.Sets.{has}
 use Rattle.dq_base.proofs.Exact.{exact_keys}
 use Rattle.dq_base.proofs.SetLaws.{Each, each_set_of}
 use Rattle.dq_base.proofs.SetTests.{any_set_of}

@@ -1,17 +1,16 @@
 -- What is read of a held row is what its rows have.
-use Rattle.std.proofs.Common.{◌≡◌, ℕ, ℤ, zero, suc, pos, negsuc, ◌+◌, ◌*◌, ◌-◌, ◌+ℤ◌, ◌*ℤ◌, Bool, true, false, ◌||◌, ◌&&◌, cond, if◌then◌else◌, List, [], ◌∷◌, ◌++◌, map, length, ◌⊎◌, inl, inr, refl, sym, ap, ◌∙◌, subst, Option, Some, None, arith}
+use Rattle.std.proofs.Common.{◌≡◌, ℕ, ℤ, suc, pos, negsuc, ◌+◌, ◌*◌, ◌+ℤ◌, ◌*ℤ◌, Bool, true, false, ◌||◌, cond, if◌then◌else◌, List, [], ◌∷◌, ◌++◌, map, length, ◌⊎◌, inl, inr, refl, sym, ap, ◌∙◌, Option, Some, None, arith}
 use Rattle.std.specs.Prelude.{slice_get}
-use Rattle.std.proofs.Math.IntN.{*ℤ_comm, neg_ℤ, suc_ℤ-*ℤ, +ℤ_comm, +ℤ_assoc, +ℤ_idr}
-use Rattle.std.specs.List.{filter, fold, list_all, list_any}
+use Rattle.std.proofs.Math.IntN.{*ℤ_comm, neg_ℤ, suc_ℤ-*ℤ, +ℤ_comm}
+use Rattle.std.specs.List.{filter, fold, list_all}
 use Rattle.std.specs.Ordering.{is_eq, is_lt, is_gt}
-use Rattle.dq_base.specs.Answers.{average_of, cell_of, fold_of, greater, greatest_of, group_row, is_present, key_of, least_of, lesser, number_of, present, rows_with, sum_of, total}
+use Rattle.dq_base.specs.Answers.{average_of, cell_of, fold_of, greater, greatest_of, group_row, is_present, key_of, least_of, lesser, number_of, present, rows_with, sum_of}
 use Rattle.dq_base.specs.Dims.{Dimension, plain}
 use Rattle.dq_base.specs.Filters.{value_at}
 use Rattle.dq_base.specs.Orders.{key_cmp, value_cmp}
 use Rattle.dq_base.proofs.Exact.{exact_keys}
 use Rattle.dq_base.specs.declared.value.Value.{Value}
 use Rattle.dq_base.specs.declared.value.Value.TheVariants as value
-use Rattle.dq_base.specs.declared.cell.Cell.{Cell}
 use Rattle.dq_base.specs.declared.query.Measure.{Measure}
 use Rattle.dq_base.specs.declared.query.Measure.TheVariants as measure
 use Rattle.dq_base.specs.declared.query.Query.{Query}
@@ -22,7 +21,7 @@ use Rattle.dq_rollup.specs.declared.source.Part.{Part}
 use Rattle.dq_rollup.specs.declared.source.Part.TheVariants.{Shown, Keyed}
 use Rattle.dq_rollup.specs.Reading.{cell_in, counted, higher, lower, multiple, number_in, plus_sum, some_value, sum_in, summed, value_of}
 use Rattle.dq_rollup.specs.Sources.{IsCounts, IsKey, IsShown, IsSums}
-use Rattle.dq_rollup.proofs.Adding.{count_big, counts, greatest_big, highs, least_big, lows, one_count, one_sum, rows_big, sum_big, sum_over, sums}
+use Rattle.dq_rollup.proofs.Adding.{count_big, counts, greatest_big, least_big, one_count, one_sum, rows_big, sum_big, sum_over, sums}
 use Rattle.dq_rollup.proofs.Big.{big, big_unit, same_from}
 use Rattle.dq_rollup.proofs.Cells.{measure_cell, plain_cell, value_again}
 use Rattle.dq_rollup.proofs.Keyed.{IsReal, has_row, some_left}

@@ -3,7 +3,6 @@ use Rattle.std.specs.Prelude.{◌≡◌, ℕ, ℤ, pos, ◌+◌, ◌-◌, Bool, 
 use Rattle.std.specs.List.{filter, fold}
 use Rattle.std.specs.Ordering.{is_eq}
 use Rattle.dq_base.specs.Answers.{cell_of, count_cell}
-use Rattle.dq_base.specs.Dims.{Dimension}
 use Rattle.dq_base.specs.Orders.{key_cmp, value_cmp}
 use Rattle.dq_base.specs.Sets.{set_of, with}
 use Rattle.dq_base.specs.declared.value.Value.{Value}

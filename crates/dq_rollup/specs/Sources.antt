@@ -1,5 +1,5 @@
 -- From which cells of a held row a measure is derived.
-use Rattle.std.specs.Prelude.{◌≡◌, ℕ, ◌+◌, Bool, true, List, length, slice_get, ◌⊎◌, Option, Some, None}
+use Rattle.std.specs.Prelude.{◌≡◌, ℕ, ◌+◌, true, length, slice_get, ◌⊎◌, Some}
 use Rattle.dq_base.specs.Covering.{same_dims}
 use Rattle.dq_base.specs.Dims.{plain}
 use Rattle.dq_base.specs.declared.query.Measure.{Measure}

@@ -1,4 +1,4 @@
-use Rattle.std.proofs.Common.{◌≡◌, ◌+◌, ◌++◌, ◌∷◌, ◌&&◌, [], List, None, false, nat_eq, map, take, drop, slice_index_or}
+use Rattle.std.proofs.Common.{◌≡◌, drop}
 use Rattle.dq_rollup.specs.Keys.{passes}
 use Rattle.dq_rollup.proofs.checks.passes.Given as goal
 

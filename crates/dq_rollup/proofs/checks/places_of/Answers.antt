@@ -1,4 +1,4 @@
-use Rattle.std.proofs.Common.{◌≡◌, ℕ, Option, sym, subst}
+use Rattle.std.proofs.Common.{subst}
 use Rattle.dq_base.specs.declared.predicate.Predicate.{Predicate}
 use Rattle.dq_rollup.specs.Keys.{IsPlaced}
 use Rattle.dq_rollup.proofs.Lists.{paired_more}

@@ -1,4 +1,4 @@
-use Rattle.std.proofs.Common.{◌≡◌, ◌+◌, ◌++◌, ◌∷◌, ◌&&◌, [], List, None, false, nat_eq, map, take, drop, slice_index_or}
+use Rattle.std.proofs.Common.{◌≡◌, ◌&&◌, false, nat_eq, take}
 use Rattle.std.specs.List.{list_any}
 use Rattle.dq_base.specs.Dims.{is_plain}
 use Rattle.dq_rollup.proofs.checks.plain_place.Given as goal

@@ -1,4 +1,4 @@
-use Rattle.std.proofs.Common.{◌≡◌, ◌+◌, ◌++◌, ◌∷◌, ◌&&◌, [], List, None, false, nat_eq, map, take, drop, slice_index_or}
+use Rattle.std.proofs.Common.{◌≡◌, take}
 use Rattle.dq_rollup.proofs.copies.copy_table.Given as goal
 
 abbrev pub invariant-loop-row : goal.invariant-loop-row

@@ -1,4 +1,4 @@
-use Rattle.std.proofs.Common.{◌≡◌, ℕ, Option, List, sym, ap, ◌∙◌}
+use Rattle.std.proofs.Common.{ℕ, Option, List, sym, ap, ◌∙◌}
 use Rattle.dq_rollup.specs.declared.key.Made.{Made}
 use Rattle.dq_rollup.specs.Keys.{made_key, passes}
 use Rattle.dq_rollup.proofs.Grouping.{grouped_at}

@@ -1,4 +1,4 @@
-use Rattle.std.proofs.Common.{◌≡◌, ◌++◌, ◌∷◌, [], List, if◌then◌else◌, ap, sym, ◌∙◌}
+use Rattle.std.proofs.Common.{◌++◌, ◌∷◌, [], List, if◌then◌else◌, ap, sym, ◌∙◌}
 use Rattle.dq_base.specs.declared.cell.Cell.{Cell}
 use Rattle.dq_rollup.specs.Derived.{Plan, is_kept}
 use Rattle.dq_rollup.specs.Grouped.{first_keys, grouped, key_at, kept_places}

@@ -1,4 +1,4 @@
-use Rattle.std.proofs.Common.{◌≡◌, ◌+◌, ◌++◌, ◌∷◌, ◌&&◌, [], List, None, false, nat_eq, map, take, drop, slice_index_or}
+use Rattle.std.proofs.Common.{◌≡◌, ◌++◌, map, take}
 use Rattle.dq_base.specs.Answers.{cell_of}
 use Rattle.dq_rollup.specs.Derived.{cell_over, rows_at}
 use Rattle.dq_rollup.proofs.groups.row_of.Given as goal

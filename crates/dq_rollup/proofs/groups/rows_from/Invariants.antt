@@ -1,4 +1,4 @@
-use Rattle.std.proofs.Common.{◌≡◌, ◌+◌, ◌++◌, ◌∷◌, ◌&&◌, [], List, None, false, nat_eq, map, take, drop, slice_index_or}
+use Rattle.std.proofs.Common.{◌≡◌, ◌++◌, map}
 use Rattle.dq_rollup.specs.Derived.{derived_row, rows_at}
 use Rattle.dq_rollup.proofs.groups.rows_from.Given as goal
 

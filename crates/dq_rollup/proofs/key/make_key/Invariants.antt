@@ -1,4 +1,4 @@
-use Rattle.std.proofs.Common.{◌≡◌, ◌+◌, ◌++◌, ◌∷◌, ◌&&◌, [], List, None, false, nat_eq, map, take, drop, slice_index_or}
+use Rattle.std.proofs.Common.{◌≡◌, map, take}
 use Rattle.dq_rollup.specs.Keys.{made_value}
 use Rattle.dq_rollup.proofs.key.make_key.Given as goal
 

@@ -1,4 +1,4 @@
-use Rattle.std.proofs.Common.{◌≡◌, List, [], ap, subst, ◌∙◌}
+use Rattle.std.proofs.Common.{◌≡◌, List, [], subst, ◌∙◌}
 use Rattle.std.specs.Prelude.{IfOk}
 use Rattle.dq_rollup.specs.Reading.{counted}
 use Rattle.dq_base.specs.declared.cell.Cell.{Cell}

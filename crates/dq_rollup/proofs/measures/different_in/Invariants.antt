@@ -1,4 +1,4 @@
-use Rattle.std.proofs.Common.{◌≡◌, ◌+◌, ◌++◌, ◌∷◌, ◌&&◌, [], List, None, false, nat_eq, map, take, drop, slice_index_or}
+use Rattle.std.proofs.Common.{◌≡◌, [], take, slice_index_or}
 use Rattle.std.specs.List.{fold}
 use Rattle.std.specs.BTreeSet.{keys}
 use Rattle.dq_rollup.specs.Derived.{with_some}

@@ -1,4 +1,4 @@
-use Rattle.std.proofs.Common.{◌≡◌, ◌+◌, ◌++◌, ◌∷◌, ◌&&◌, [], List, None, false, nat_eq, map, take, drop, slice_index_or}
+use Rattle.std.proofs.Common.{◌≡◌, [], None, take, slice_index_or}
 use Rattle.std.specs.List.{fold}
 use Rattle.dq_rollup.specs.Reading.{cell_in, lower, some_value, value_of}
 use Rattle.dq_rollup.proofs.measures.least_in.Given as goal

@@ -1,4 +1,4 @@
-use Rattle.std.proofs.Common.{◌≡◌, ◌+◌, ◌++◌, ◌∷◌, ◌&&◌, [], List, None, false, nat_eq, map, take, drop, slice_index_or}
+use Rattle.std.proofs.Common.{◌≡◌, ◌+◌, [], take, slice_index_or}
 use Rattle.std.specs.List.{fold}
 use Rattle.dq_rollup.specs.Reading.{counted}
 use Rattle.dq_rollup.proofs.measures.total_count.Given as goal

@@ -1,4 +1,4 @@
-use Rattle.std.proofs.Common.{◌≡◌, ◌+◌, ◌++◌, ◌∷◌, ◌&&◌, [], List, None, false, nat_eq, map, take, drop, slice_index_or}
+use Rattle.std.proofs.Common.{◌≡◌, false, take}
 use Rattle.std.specs.List.{list_any}
 use Rattle.dq_base.specs.Covering.{measure_eq}
 use Rattle.dq_rollup.proofs.sources.measure_place.Given as goal

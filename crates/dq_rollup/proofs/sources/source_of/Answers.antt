@@ -1,4 +1,4 @@
-use Rattle.std.proofs.Common.{◌≡◌, ◌&&◌, Bool, true, subst, sym}
+use Rattle.std.proofs.Common.{◌≡◌, true, subst, sym}
 use Rattle.std.specs.List.{list_all}
 use Rattle.dq_base.specs.Covering.{Filled, Total, gives, needs}
 use Rattle.dq_base.specs.declared.query.Measure.{Measure}

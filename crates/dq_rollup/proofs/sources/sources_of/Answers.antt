@@ -1,4 +1,4 @@
-use Rattle.std.proofs.Common.{◌≡◌, ℕ, zero, suc, ◌<◌, Bool, true, List, [], ◌∷◌, length, slice_index_or, sym, ap, ◌∙◌, arith}
+use Rattle.std.proofs.Common.{◌≡◌, ℕ, zero, suc, ◌<◌, Bool, true, List, [], ◌∷◌, length, slice_index_or, ap, ◌∙◌, arith}
 use Rattle.std.specs.List.{list_all}
 use Rattle.dq_base.specs.Covering.{gives, needs}
 use Rattle.dq_base.specs.declared.query.Measure.{Measure}

@@ -1,4 +1,4 @@
-use Rattle.std.proofs.Common.{◌≡◌, ◌+◌, ◌++◌, ◌∷◌, ◌&&◌, [], List, None, false, nat_eq, map, take, drop, slice_index_or}
+use Rattle.std.proofs.Common.{◌≡◌, take}
 use Rattle.dq_rollup.specs.Pairs.{Paired}
 use Rattle.dq_rollup.specs.Sources.{IsSource}
 use Rattle.dq_rollup.proofs.sources.sources_of.Given as goal
