@@ -1,0 +1,12 @@
+pub mod Adding
+pub mod Bands
+pub mod Big
+pub mod Bounded
+pub mod Cells
+pub mod Deriving
+pub mod Extents
+pub mod Grouping
+pub mod Keyed
+pub mod Lists
+pub mod Readings
+pub mod Sound

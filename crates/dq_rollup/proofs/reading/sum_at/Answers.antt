@@ -1,0 +1,8 @@
+use Rattle.std.proofs.Common.{ap}
+use Rattle.dq_rollup.specs.Reading.{sum_in}
+use Rattle.dq_base.specs.declared.cell.Cell.TheVariants.{Null}
+use Rattle.dq_rollup.proofs.Lists.{absent}
+use Rattle.dq_rollup.proofs.reading.sum_at.Goals as goal
+
+pub returns-in-None : goal.returns-in-None
+returns-in-None c = ap (sum_in) (absent c.args.row.now c.args.place Null c.in-None.ensures)
