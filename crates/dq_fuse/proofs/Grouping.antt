@@ -16,17 +16,17 @@ Placed = ℕ × Query
 
 -- the first group takes what fuses with it, and the others the rest
 split_step : (b : Bool) (g : Gathered) (gs : List Gathered) (x : Placed) (xs ys zs : List Placed) →
-  fold gathered_with (joined g x ∷ gs) xs ≡ fold joined (joined g x) ys ∷ fold gathered_with gs zs →
-  fold gathered_with (g ∷ gathered_with gs x) xs ≡ fold joined g ys ∷ fold gathered_with (gathered_with gs x) zs →
-  fold gathered_with (if b then joined g x ∷ gs else g ∷ gathered_with gs x) xs ≡ fold joined g (cond b (x ∷ ys) ys) ∷ fold gathered_with gs (cond (not b) (x ∷ zs) zs)
+    fold gathered_with (joined g x ∷ gs) xs ≡ fold joined (joined g x) ys ∷ fold gathered_with gs zs →
+    fold gathered_with (g ∷ gathered_with gs x) xs ≡ fold joined g ys ∷ fold gathered_with (gathered_with gs x) zs →
+    fold gathered_with (if b then joined g x ∷ gs else g ∷ gathered_with gs x) xs ≡ fold joined g (cond b (x ∷ ys) ys) ∷ fold gathered_with gs (cond (not b) (x ∷ zs) zs)
 split_step true g gs x xs ys zs p q = p
 split_step false g gs x xs ys zs p q = q
 
 split : (g : Gathered) (gs : List Gathered) (xs : List Placed) →
-  fold gathered_with (g ∷ gs) xs ≡ fold joined g (filter (λ p. fuses g.first p.1) xs) ∷ fold gathered_with gs (filter (λ p. not (fuses g.first p.1)) xs)
+    fold gathered_with (g ∷ gs) xs ≡ fold joined g (filter (λ p. fuses g.first p.1) xs) ∷ fold gathered_with gs (filter (λ p. not (fuses g.first p.1)) xs)
 split g gs [] = refl
 split g gs (x ∷ xs) =
-  split_step (fuses g.first x.1) g gs x xs (filter (λ p. fuses g.first p.1) xs) (filter (λ p. not (fuses g.first p.1)) xs)
+    split_step (fuses g.first x.1) g gs x xs (filter (λ p. fuses g.first p.1) xs) (filter (λ p. not (fuses g.first p.1)) xs)
     (split (joined g x) gs xs) (split g (gathered_with gs x) xs)
 
 absorbs : (g : Gathered) (xs : List Placed) → fold joined g xs ≡ record { first = g.first; others = g.others ++ map (λ p. p.1) xs; members = g.members ++ map (λ p. p.0) xs }
@@ -50,9 +50,9 @@ groups_are zero [] l = refl
 groups_are zero (q ∷ qs) l = absurd (omega arith)
 groups_are (suc n) [] l = refl
 groups_are (suc n) (q ∷ qs) l =
-  ap (map group_of) (split (alone q) [] qs)
-  ∙ ap (λ g. g ∷ map group_of (fold gathered_with [] (filter (λ p. not (fuses q.1 p.1)) qs))) (group_is q (filter (λ p. fuses q.1 p.1) qs))
-  ∙ ap (λ gs. group_with (filter (λ p. fuses q.1 p.1) qs) q ∷ gs) (groups_are n (filter (λ p. not (fuses q.1 p.1)) qs) (filter_le (λ p. not (fuses q.1 p.1)) qs n (omega arith)))
+    ap (map group_of) (split (alone q) [] qs)
+    ∙ ap (λ g. g ∷ map group_of (fold gathered_with [] (filter (λ p. not (fuses q.1 p.1)) qs))) (group_is q (filter (λ p. fuses q.1 p.1) qs))
+    ∙ ap (λ gs. group_with (filter (λ p. fuses q.1 p.1) qs) q ∷ gs) (groups_are n (filter (λ p. not (fuses q.1 p.1)) qs) (filter_le (λ p. not (fuses q.1 p.1)) qs n (omega arith)))
 
 length_numbered : (n : ℕ) (qs : List Query) → length (enumerate_from n qs) ≤ length qs
 length_numbered n [] = omega arith
@@ -68,7 +68,7 @@ any_kind q [] = refl
 any_kind q (g ∷ gs) = ap (λ b. b || list_any (kind_eq (kind_of q)) (kinds_of gs)) (same_kind_back g.first q) ∙ ap (λ b. fuses g.first q || b) (any_kind q gs)
 
 at_front : (b : Bool) (g : Gathered) (gs more : List Gathered) (q : Placed) → (b || list_any (λ h. fuses h.first q.1) gs) ≡ false
-  → (list_any (λ h. fuses h.first q.1) gs ≡ false → gs ++ alone q ∷ [] ≡ more) → g ∷ (gs ++ alone q ∷ []) ≡ (if b then joined g q ∷ gs else g ∷ more)
+    → (list_any (λ h. fuses h.first q.1) gs ≡ false → gs ++ alone q ∷ [] ≡ more) → g ∷ (gs ++ alone q ∷ []) ≡ (if b then joined g q ∷ gs else g ∷ more)
 at_front true g gs more q e h = cc
 at_front false g gs more q e h = ap (λ x. g ∷ x) (h e)
 
@@ -84,25 +84,25 @@ abbrev pub at_place : List Gathered → ℕ → Placed → Gathered → List Gat
 at_place gs i q d = slice_set gs i (joined (get_or gs i d) q)
 
 old_step : (b : Bool) (g : Gathered) (gs more : List Gathered) (q : Placed) (d : Gathered) (i : ℕ) (any : Bool) → (b || any) ≡ true
-  → (any ≡ true → at_place gs i q d ≡ more) → at_place (g ∷ gs) (cond (not b) (1 + i) 0) q d ≡ (if b then joined g q ∷ gs else g ∷ more)
+    → (any ≡ true → at_place gs i q d ≡ more) → at_place (g ∷ gs) (cond (not b) (1 + i) 0) q d ≡ (if b then joined g q ∷ gs else g ∷ more)
 old_step true g gs more q d i any e h = refl
 old_step false g gs more q d i any e h =
-  let n : 1 + i ≡ suc i = omega arith in
-  ap (λ k. at_place (g ∷ gs) k q d) n ∙ ap (λ hs. g ∷ hs) (h e)
+    let n : 1 + i ≡ suc i = omega arith in
+    ap (λ k. at_place (g ∷ gs) k q d) n ∙ ap (λ hs. g ∷ hs) (h e)
 
 old_by : (gs : List Gathered) (q : Placed) (d : Gathered) → list_any (λ g. fuses g.first q.1) gs ≡ true → at_place gs (position_or_len (kind_eq (kind_of q.1)) (kinds_of gs)) q d ≡ gathered_with gs q
 old_by [] q d e = cc
 old_by (g ∷ gs) q d e =
-  let i = position_or_len (kind_eq (kind_of q.1)) (kinds_of gs) in
-  ap (λ b. at_place (g ∷ gs) (cond (not b) (1 + i) 0) q d) (same_kind_back g.first q.1)
-  ∙ old_step (fuses g.first q.1) g gs (gathered_with gs q) q d i (list_any (λ h. fuses h.first q.1) gs) e (old_by gs q d)
+    let i = position_or_len (kind_eq (kind_of q.1)) (kinds_of gs) in
+    ap (λ b. at_place (g ∷ gs) (cond (not b) (1 + i) 0) q d) (same_kind_back g.first q.1)
+    ∙ old_step (fuses g.first q.1) g gs (gathered_with gs q) q d i (list_any (λ h. fuses h.first q.1) gs) e (old_by gs q d)
 
 -- a query of a kind that is there joins the group of its number
 pub joins_there : (gs : List Gathered) (q : Placed) (d : Gathered) → list_any (kind_eq (kind_of q.1)) (kinds_of gs) ≡ true → at_place gs (position_or_len (kind_eq (kind_of q.1)) (kinds_of gs)) q d ≡ gathered_with gs q
 joins_there gs q d e = old_by gs q d (sym (any_kind q.1 gs) ∙ e)
 
 kept_step : (b : Bool) (g : Gathered) (gs more : List Gathered) (q : Placed) (any : Bool) → (b || any) ≡ true → (any ≡ true → kinds_of more ≡ kinds_of gs)
-  → kinds_of (if b then joined g q ∷ gs else g ∷ more) ≡ kinds_of (g ∷ gs)
+    → kinds_of (if b then joined g q ∷ gs else g ∷ more) ≡ kinds_of (g ∷ gs)
 kept_step true g gs more q any e h = refl
 kept_step false g gs more q any e h = ap (λ ks. kind_of g.first ∷ ks) (h e)
 
@@ -117,14 +117,14 @@ kinds_by false gs q e = sym (map-append (λ (g : Gathered). kind_of g.first) gs 
 -- the kinds after it
 pub kinds_with : (gs : List Gathered) (q : Placed) → insert_key kind_eq (kinds_of gs) (kind_of q.1) ≡ kinds_of (gathered_with gs q)
 kinds_with gs q =
-  ap (λ b. if b then kinds_of gs else kinds_of gs ++ kind_of q.1 ∷ []) (any_kind q.1 gs)
-  ∙ kinds_by (list_any (λ g. fuses g.first q.1) gs) gs q refl
+    ap (λ b. if b then kinds_of gs else kinds_of gs ++ kind_of q.1 ∷ []) (any_kind q.1 gs)
+    ∙ kinds_by (list_any (λ g. fuses g.first q.1) gs) gs q refl
 
 numbered_more : (n : ℕ) (qs : List Query) (q : Query) → enumerate_from n (qs ++ q ∷ []) ≡ enumerate_from n qs ++ (n + length qs, q) ∷ []
 numbered_more n [] q = let e : n ≡ n + 0 = omega arith in ap (λ k. (k, q) ∷ []) e
 numbered_more n (x ∷ qs) q =
-  let e : n + 1 + length qs ≡ n + length (x ∷ qs) = omega arith in
-  ap (λ xs. (n, x) ∷ xs) (numbered_more (n + 1) qs q ∙ ap (λ k. enumerate_from (n + 1) qs ++ (k, q) ∷ []) e)
+    let e : n + 1 + length qs ≡ n + length (x ∷ qs) = omega arith in
+    ap (λ xs. (n, x) ∷ xs) (numbered_more (n + 1) qs q ∙ ap (λ k. enumerate_from (n + 1) qs ++ (k, q) ∷ []) e)
 
 folded_more : (gs : List Gathered) (qs : List Placed) (q : Placed) → fold gathered_with gs (qs ++ q ∷ []) ≡ gathered_with (fold gathered_with gs qs) q
 folded_more gs [] q = refl
@@ -137,17 +137,17 @@ length_taken (x ∷ xs) (suc i) l = ap suc (length_taken xs i (omega arith))
 
 -- one item more
 pub gathered_more : {A : Type 0} (f : A → Query) (xs : List A) (i : ℕ) (x : A) → i < length xs → x ≡ get_or xs i x
-  → gathered (enumerate_from 0 (map f (take (i + 1) xs))) ≡ gathered_with (gathered (enumerate_from 0 (map f (take i xs)))) (i, f x)
+    → gathered (enumerate_from 0 (map f (take (i + 1) xs))) ≡ gathered_with (gathered (enumerate_from 0 (map f (take i xs)))) (i, f x)
 gathered_more f xs i x l e =
-  let n : i + 1 ≡ suc i = omega arith in
-  let t : take (i + 1) xs ≡ take i xs ++ x ∷ [] = ap (λ k. take k xs) n ∙ take-suc xs i x l ∙ ap (λ y. take i xs ++ y ∷ []) (sym e) in
-  let m : length (map f (take i xs)) ≡ i = length-map (take i xs) f ∙ length_taken xs i (omega arith) in
-  let z : 0 + length (map f (take i xs)) ≡ i = omega (arith, m) in
-  ap (λ ys. gathered (enumerate_from 0 (map f ys))) t
-  ∙ ap (λ ys. gathered (enumerate_from 0 ys)) (map-append f (take i xs) (x ∷ []))
-  ∙ ap gathered (numbered_more 0 (map f (take i xs)) (f x))
-  ∙ folded_more [] (enumerate_from 0 (map f (take i xs))) (0 + length (map f (take i xs)), f x)
-  ∙ ap (λ k. gathered_with (gathered (enumerate_from 0 (map f (take i xs)))) (k, f x)) z
+    let n : i + 1 ≡ suc i = omega arith in
+    let t : take (i + 1) xs ≡ take i xs ++ x ∷ [] = ap (λ k. take k xs) n ∙ take-suc xs i x l ∙ ap (λ y. take i xs ++ y ∷ []) (sym e) in
+    let m : length (map f (take i xs)) ≡ i = length-map (take i xs) f ∙ length_taken xs i (omega arith) in
+    let z : 0 + length (map f (take i xs)) ≡ i = omega (arith, m) in
+    ap (λ ys. gathered (enumerate_from 0 (map f ys))) t
+    ∙ ap (λ ys. gathered (enumerate_from 0 ys)) (map-append f (take i xs) (x ∷ []))
+    ∙ ap gathered (numbered_more 0 (map f (take i xs)) (f x))
+    ∙ folded_more [] (enumerate_from 0 (map f (take i xs))) (0 + length (map f (take i xs)), f x)
+    ∙ ap (λ k. gathered_with (gathered (enumerate_from 0 (map f (take i xs)))) (k, f x)) z
 
 -- what a query's look-up in the set of kinds means
 
@@ -163,17 +163,17 @@ any_at : (gs : List Gathered) (ks : List KindOf) (k : KindOf) (q : Placed) → k
 any_at gs ks k q e f = λ i. list_any (kind_eq (f i)) (e i)
 
 pub entered_new : (gs : List Gathered) (ks : List KindOf) (k : KindOf) (q : Placed) (new : Bool) (a : Gathered)
-  → ks ≡ kinds_of gs → k ≡ kind_of q.1 → new ≡ not (list_any (kind_eq k) ks) → new ≡ true → a ≡ alone q → gs ++ a ∷ [] ≡ gathered_with gs q
+    → ks ≡ kinds_of gs → k ≡ kind_of q.1 → new ≡ not (list_any (kind_eq k) ks) → new ≡ true → a ≡ alone q → gs ++ a ∷ [] ≡ gathered_with gs q
 entered_new gs ks k q new a e f n t s =
-  ap (λ x. gs ++ x ∷ []) s ∙ joins_none gs q (sym (any_at gs ks k q e f) ∙ not_false (list_any (kind_eq k) ks) new n t)
+    ap (λ x. gs ++ x ∷ []) s ∙ joins_none gs q (sym (any_at gs ks k q e f) ∙ not_false (list_any (kind_eq k) ks) new n t)
 
 pub entered_old : (gs : List Gathered) (ks : List KindOf) (k : KindOf) (q : Placed) (new : Bool) (i : ℕ) (d a : Gathered)
-  → ks ≡ kinds_of gs → k ≡ kind_of q.1 → new ≡ not (list_any (kind_eq k) ks) → new ≡ false → i ≡ position_or_len (kind_eq k) ks → a ≡ joined (get_or gs i d) q
-  → slice_set gs i a ≡ gathered_with gs q
+    → ks ≡ kinds_of gs → k ≡ kind_of q.1 → new ≡ not (list_any (kind_eq k) ks) → new ≡ false → i ≡ position_or_len (kind_eq k) ks → a ≡ joined (get_or gs i d) q
+    → slice_set gs i a ≡ gathered_with gs q
 entered_old gs ks k q new i d a e f n t p s =
-  let at : i ≡ position_or_len (kind_eq (kind_of q.1)) (kinds_of gs) = p ∙ (λ j. position_or_len (kind_eq (f j)) (e j)) in
-  ap (λ x. slice_set gs i x) s ∙ ap (λ j. at_place gs j q d) at
-  ∙ joins_there gs q d (sym (any_at gs ks k q e f) ∙ not_true (list_any (kind_eq k) ks) new n t)
+    let at : i ≡ position_or_len (kind_eq (kind_of q.1)) (kinds_of gs) = p ∙ (λ j. position_or_len (kind_eq (f j)) (e j)) in
+    ap (λ x. slice_set gs i x) s ∙ ap (λ j. at_place gs j q d) at
+    ∙ joins_there gs q d (sym (any_at gs ks k q e f) ∙ not_true (list_any (kind_eq k) ks) new n t)
 
 pub entered_keys : (gs hs : List Gathered) (ks js : List KindOf) (k : KindOf) (q : Placed) → ks ≡ kinds_of gs → k ≡ kind_of q.1 → js ≡ insert_key kind_eq ks k → hs ≡ gathered_with gs q → js ≡ kinds_of hs
 entered_keys gs hs ks js k q e f j h = j ∙ (λ i. insert_key kind_eq (e i) (f i)) ∙ kinds_with gs q ∙ ap kinds_of (sym h)

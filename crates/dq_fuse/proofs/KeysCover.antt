@@ -41,8 +41,8 @@ mapped_all p (q ∷ qs) = ap (λ b. p q.1 && b) (mapped_all p qs)
 placed_all : (queries : List Query) (key : Query) (qs : List Placed) → Stand queries qs → list_all (covered_at queries key) (map (λ q. q.0) qs) ≡ list_all (covers key) (map (λ q. q.1) qs)
 placed_all queries key [] s = refl
 placed_all queries key (q ∷ qs) s =
-  ap (λ o. covered o && list_all (covered_at queries key) (map (λ p. p.0) qs)) s.0
-  ∙ ap (λ b. covers key q.1 && b) (placed_all queries key qs s.1)
+    ap (λ o. covered o && list_all (covered_at queries key) (map (λ p. p.0) qs)) s.0
+    ∙ ap (λ b. covers key q.1 && b) (placed_all queries key qs s.1)
   where
     covered : Option Query → Bool
     covered o = option_map_or (covers key) o false
@@ -55,11 +55,11 @@ all_covered : (n : ℕ) (queries : List Query) (qs : List Placed) → Stand quer
 all_covered zero queries qs s = refl
 all_covered (suc n) queries [] s = refl
 all_covered (suc n) queries (q ∷ qs) s =
-  let mine = filter (λ p. fuses q.1 p.1) qs in
-  let others = filter (λ p. not (fuses q.1 p.1)) qs in
-  and_both (covers_members queries (group_with mine q)) (list_all (covers_members queries) (groups_from n others))
+    let mine = filter (λ p. fuses q.1 p.1) qs in
+    let others = filter (λ p. not (fuses q.1 p.1)) qs in
+    and_both (covers_members queries (group_with mine q)) (list_all (covers_members queries) (groups_from n others))
     (placed_all queries (group_with mine q).key (q ∷ mine) (s.0, filter_stand (λ p. fuses q.1 p.1) queries qs s.1)
-      ∙ group_covers q mine (filter_all (λ p. fuses q.1 p.1) qs))
+    ∙ group_covers q mine (filter_all (λ p. fuses q.1 p.1) qs))
     (all_covered n queries others (filter_stand (λ p. not (fuses q.1 p.1)) queries qs s.1))
 
 found : (qs : List Query) (q : Query) (rest : List Query) → slice_get (qs ++ q ∷ rest) (length qs) ≡ Some q
@@ -69,10 +69,10 @@ found (x ∷ qs) q rest = found qs q rest
 numbered_stand : (before qs : List Query) → Stand (before ++ qs) (enumerate_from (length before) qs)
 numbered_stand before [] = tt
 numbered_stand before (q ∷ qs) =
-  let P : ℕ → Type 0 = λ n. Stand (before ++ q ∷ qs) (enumerate_from n qs) in
-  let R : List Query → Type 0 = λ xs. Stand xs (enumerate_from (length (before ++ q ∷ [])) qs) in
-  let n : length (before ++ q ∷ []) ≡ length before + 1 = length-append before (q ∷ []) in
-  (found before q qs, subst P n (subst R (append_assoc before (q ∷ []) qs) (numbered_stand (before ++ q ∷ []) qs)))
+    let P : ℕ → Type 0 = λ n. Stand (before ++ q ∷ qs) (enumerate_from n qs) in
+    let R : List Query → Type 0 = λ xs. Stand xs (enumerate_from (length (before ++ q ∷ [])) qs) in
+    let n : length (before ++ q ∷ []) ≡ length before + 1 = length-append before (q ∷ []) in
+    (found before q qs, subst P n (subst R (append_assoc before (q ∷ []) qs) (numbered_stand (before ++ q ∷ []) qs)))
 
 pub keys_cover : (queries : List Query) → list_all (covers_members queries) (groups queries) ≡ true
 keys_cover queries = all_covered (length queries) queries (enumerate_from 0 queries) (numbered_stand [] queries)

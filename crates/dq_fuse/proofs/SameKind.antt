@@ -99,8 +99,8 @@ module _ {X : Type 0} (cmp : X → X → Ordering) (o : IsTotalOrder cmp) (exact
   without_head : (b : X) (xs ys : List X) → Each (λ x. cmp b x ≡ Less) xs → all_in cmp xs (b ∷ ys) ≡ true → all_in cmp xs ys ≡ true
   without_head b [] ys e h = refl
   without_head b (x ∷ xs) ys e h =
-    let other : has cmp (b ∷ ys) x ≡ has cmp ys x = ap (λ r. is_eq r || has cmp ys x) (turned b x e.0) in
-    and_join (has cmp ys x) (all_in cmp xs ys) (sym other ∙ and_first (has cmp (b ∷ ys) x) (all_in cmp xs (b ∷ ys)) h)
+      let other : has cmp (b ∷ ys) x ≡ has cmp ys x = ap (λ r. is_eq r || has cmp ys x) (turned b x e.0) in
+      and_join (has cmp ys x) (all_in cmp xs ys) (sym other ∙ and_first (has cmp (b ∷ ys) x) (all_in cmp xs (b ∷ ys)) h)
       (without_head b xs ys e.1 (and_second (has cmp (b ∷ ys) x) (all_in cmp xs (b ∷ ys)) h))
 
   pub same_items : (xs ys : List X) → Ascends cmp xs → Ascends cmp ys → all_in cmp xs ys ≡ true → all_in cmp ys xs ≡ true → xs ≡ ys
@@ -116,8 +116,8 @@ module _ {X : Type 0} (cmp : X → X → Ordering) (o : IsTotalOrder cmp) (exact
         let P : X → Type 0 = λ z. Each (λ w. cmp z w ≡ Less) xs in
         let Q : X → Type 0 = λ z. all_in cmp ys (z ∷ xs) ≡ true in
         let rest = same_items xs ys a.1 b.1
-              (without_head y xs ys (subst P s a.0) (and_second (has cmp (y ∷ ys) x) (all_in cmp xs (y ∷ ys)) f))
-              (without_head y ys xs b.0 (subst Q s (and_second (has cmp (x ∷ xs) y) (all_in cmp ys (x ∷ xs)) g))) in
+        (without_head y xs ys (subst P s a.0) (and_second (has cmp (y ∷ ys) x) (all_in cmp xs (y ∷ ys)) f))
+        (without_head y ys xs b.0 (subst Q s (and_second (has cmp (x ∷ xs) y) (all_in cmp ys (x ∷ xs)) g))) in
         ap (λ z. z ∷ xs) s ∙ ap (λ zs. y ∷ zs) rest
     | Greater ↦ λ e.
         let t = and_first (has cmp (x ∷ xs) y) (all_in cmp ys (x ∷ xs)) g in
@@ -127,29 +127,29 @@ module _ {X : Type 0} (cmp : X → X → Ordering) (o : IsTotalOrder cmp) (exact
   all_self : (xs : List X) → all_in cmp xs xs ≡ true
   all_self [] = refl
   all_self (x ∷ xs) =
-    and_join (has cmp (x ∷ xs) x) (all_in cmp xs (x ∷ xs)) (ap (λ r. is_eq r || has cmp xs x) (tied_itself o x))
+      and_join (has cmp (x ∷ xs) x) (all_in cmp xs (x ∷ xs)) (ap (λ r. is_eq r || has cmp xs x) (tied_itself o x))
       (all_weaker (has cmp xs) (has cmp (x ∷ xs)) (λ y h. or_second (is_eq (cmp y x)) (has cmp xs y) h) xs (all_self xs))
 
   all_in_sets : (xs ys : List X) → all_in cmp (set_of cmp xs) (set_of cmp ys) ≡ all_in cmp xs ys
   all_in_sets xs ys =
-    all_is (has cmp (set_of cmp ys)) (set_of cmp xs)
-    ∙ ap not (any_set_of (λ x. not (has cmp (set_of cmp ys) x)) cmp exact xs)
-    ∙ sym (all_is (has cmp (set_of cmp ys)) xs)
-    ∙ all_agree (has cmp (set_of cmp ys)) (has cmp ys) (λ x. any_set_of (λ y. is_eq (cmp x y)) cmp exact ys) xs
+      all_is (has cmp (set_of cmp ys)) (set_of cmp xs)
+      ∙ ap not (any_set_of (λ x. not (has cmp (set_of cmp ys) x)) cmp exact xs)
+      ∙ sym (all_is (has cmp (set_of cmp ys)) xs)
+      ∙ all_agree (has cmp (set_of cmp ys)) (has cmp ys) (λ x. any_set_of (λ y. is_eq (cmp x y)) cmp exact ys) xs
 
   pub same_sets : (eq : X → X → Bool) → ((x y : X) → (eq x y ≡ true → x ≡ y) × (x ≡ y → eq x y ≡ true)) → (xs ys : List X)
-    → pointwise eq (set_of cmp xs) (set_of cmp ys) ≡ (all_in cmp xs ys && all_in cmp ys xs)
+      → pointwise eq (set_of cmp xs) (set_of cmp ys) ≡ (all_in cmp xs ys && all_in cmp ys xs)
   same_sets eq d xs ys =
-    let decides = pointwise_decides d (set_of cmp xs) (set_of cmp ys) in
-    same_by (pointwise eq (set_of cmp xs) (set_of cmp ys)) (all_in cmp xs ys && all_in cmp ys xs)
+      let decides = pointwise_decides d (set_of cmp xs) (set_of cmp ys) in
+      same_by (pointwise eq (set_of cmp xs) (set_of cmp ys)) (all_in cmp xs ys && all_in cmp ys xs)
       (λ h.
-        let s = decides.0 h in
-        let P : List X → Type 0 = λ zs. all_in cmp (set_of cmp xs) zs ≡ true in
-        let Q : List X → Type 0 = λ zs. all_in cmp zs (set_of cmp xs) ≡ true in
-        and_join (all_in cmp xs ys) (all_in cmp ys xs) (sym (all_in_sets xs ys) ∙ subst P s (all_self (set_of cmp xs))) (sym (all_in_sets ys xs) ∙ subst Q s (all_self (set_of cmp xs))))
+      let s = decides.0 h in
+      let P : List X → Type 0 = λ zs. all_in cmp (set_of cmp xs) zs ≡ true in
+      let Q : List X → Type 0 = λ zs. all_in cmp zs (set_of cmp xs) ≡ true in
+      and_join (all_in cmp xs ys) (all_in cmp ys xs) (sym (all_in_sets xs ys) ∙ subst P s (all_self (set_of cmp xs))) (sym (all_in_sets ys xs) ∙ subst Q s (all_self (set_of cmp xs))))
       (λ h. decides.1 (same_items (set_of cmp xs) (set_of cmp ys) (ascends_set_of cmp o xs) (ascends_set_of cmp o ys)
-        (all_in_sets xs ys ∙ and_first (all_in cmp xs ys) (all_in cmp ys xs) h)
-        (all_in_sets ys xs ∙ and_second (all_in cmp xs ys) (all_in cmp ys xs) h)))
+      (all_in_sets xs ys ∙ and_first (all_in cmp xs ys) (all_in cmp ys xs) h)
+      (all_in_sets ys xs ∙ and_second (all_in cmp xs ys) (all_in cmp ys xs) h)))
 
 number_tied : (a b : ℕ) → is_eq (nat_cmp a b) ≡ nat_eq a b
 number_tied a b = grind (arith, nat_tests)
@@ -172,10 +172,11 @@ number_same : (a : ℕ) → nat_eq a a ≡ true
 number_same a = grind (arith, nat_tests)
 
 pair_decides : (a b : Pair) → (pair_eq a b ≡ true → a ≡ b) × (a ≡ b → pair_eq a b ≡ true)
-pair_decides a b =
-  (λ h. ap (λ (x : ℕ). let p : Pair = (x, a.1) in p) (number_exact a.0 b.0 (and_first (nat_eq a.0 b.0) (nat_eq a.1 b.1) h))
+pair_decides a b = (
+  λ h. ap (λ (x : ℕ). let p : Pair = (x, a.1) in p) (number_exact a.0 b.0 (and_first (nat_eq a.0 b.0) (nat_eq a.1 b.1) h))
       ∙ ap (λ (x : ℕ). let p : Pair = (b.0, x) in p) (number_exact a.1 b.1 (and_second (nat_eq a.0 b.0) (nat_eq a.1 b.1) h)),
-   λ e. let P : Pair → Type 0 = λ c. pair_eq a c ≡ true in subst P e (and_join (nat_eq a.0 a.0) (nat_eq a.1 a.1) (number_same a.0) (number_same a.1)))
+  λ e. let P : Pair → Type 0 = λ c. pair_eq a c ≡ true in subst P e (and_join (nat_eq a.0 a.0) (nat_eq a.1 a.1) (number_same a.0) (number_same a.1)),
+)
 
 pair_exact : (a b : Pair) → pair_cmp a b ≡ Equal → a ≡ b
 pair_exact a b e = (pair_decides a b).0 (sym (pair_tied a b) ∙ tied_true (pair_cmp a b) e)
@@ -188,15 +189,15 @@ dim_tied d e = pair_tied (pair_of d) (pair_of e) ∙ ap (λ x. nat_eq d.column e
 
 all_in_dims_is : (ds es : List Dimension) → all_in pair_cmp (map pair_of ds) (map pair_of es) ≡ all_in_dims ds es
 all_in_dims_is ds es =
-  list_all-map (has pair_cmp (map pair_of es)) pair_of ds
-  ∙ all_agree (λ d. has pair_cmp (map pair_of es) (pair_of d)) (λ d. list_any (dim_eq d) es)
-      (λ d. any_map (λ p. is_eq (pair_cmp (pair_of d) p)) pair_of es ∙ any_agree (λ e. is_eq (pair_cmp (pair_of d) (pair_of e))) (dim_eq d) (dim_tied d) es) ds
+    list_all-map (has pair_cmp (map pair_of es)) pair_of ds
+    ∙ all_agree (λ d. has pair_cmp (map pair_of es) (pair_of d)) (λ d. list_any (dim_eq d) es)
+    (λ d. any_map (λ p. is_eq (pair_cmp (pair_of d) p)) pair_of es ∙ any_agree (λ e. is_eq (pair_cmp (pair_of d) (pair_of e))) (dim_eq d) (dim_tied d) es) ds
 
 same_dim_sets : (ds es : List Dimension) → pointwise pair_eq (set_of pair_cmp (map pair_of ds)) (set_of pair_cmp (map pair_of es)) ≡ (all_in_dims ds es && all_in_dims es ds)
 same_dim_sets ds es =
-  same_sets pair_cmp pair_total pair_exact pair_eq pair_decides (map pair_of ds) (map pair_of es)
-  ∙ ap (λ b. b && all_in pair_cmp (map pair_of es) (map pair_of ds)) (all_in_dims_is ds es)
-  ∙ ap (λ b. all_in_dims ds es && b) (all_in_dims_is es ds)
+    same_sets pair_cmp pair_total pair_exact pair_eq pair_decides (map pair_of ds) (map pair_of es)
+    ∙ ap (λ b. b && all_in pair_cmp (map pair_of es) (map pair_of ds)) (all_in_dims_is ds es)
+    ∙ ap (λ b. all_in_dims ds es && b) (all_in_dims_is es ds)
 
 same_lists : {X : Type 0} (eq : X → X → Bool) (xs ys : List X) → pointwise eq xs ys ≡ lists_eq eq xs ys
 same_lists eq [] [] = refl
@@ -206,8 +207,8 @@ same_lists eq (x ∷ xs) (y ∷ ys) = ap (λ b. eq x y && b) (same_lists eq xs y
 
 pub same_kind : (p q : Query) → kind_eq (kind_of p) (kind_of q) ≡ fuses p q
 same_kind p q =
-  ap (λ b. nat_eq p.source q.source && b && pointwise pair_eq (kind_of p).dims (kind_of q).dims) (same_lists (eq_by_cmp predicate_cmp) p.filters q.filters)
-  ∙ ap (λ b. nat_eq p.source q.source && lists_eq predicate_eq p.filters q.filters && b) (same_dim_sets p.dims q.dims)
+    ap (λ b. nat_eq p.source q.source && b && pointwise pair_eq (kind_of p).dims (kind_of q).dims) (same_lists (eq_by_cmp predicate_cmp) p.filters q.filters)
+    ∙ ap (λ b. nat_eq p.source q.source && lists_eq predicate_eq p.filters q.filters && b) (same_dim_sets p.dims q.dims)
 
 -- the other way round
 pub same_kind_back : (p q : Query) → kind_eq (kind_of q) (kind_of p) ≡ fuses p q

@@ -73,5 +73,5 @@ added_when false ks k = map-append (λ (s : Shown). s.0) ks (k ∷ [])
 -- a measure in the set
 pub shown_with : (ks : List Shown) (k : Shown) → map (λ (s : Shown). s.0) (insert_key (λ a b. tag_eq a.0 b.0) ks k) ≡ with_measure (map (λ (s : Shown). s.0) ks) k.0
 shown_with ks k =
-  added_when (list_any (λ (s : Shown). tag_eq k.0 s.0) ks) ks k
-  ∙ ap (λ b. if b then map (λ (s : Shown). s.0) ks else map (λ (s : Shown). s.0) ks ++ k.0 ∷ []) (any_same k.0 ks)
+    added_when (list_any (λ (s : Shown). tag_eq k.0 s.0) ks) ks k
+    ∙ ap (λ b. if b then map (λ (s : Shown). s.0) ks else map (λ (s : Shown). s.0) ks ++ k.0 ∷ []) (any_same k.0 ks)

@@ -23,7 +23,7 @@ predicates_equiv = eq_by_cmp_equiv predicate_cmp_total
 
 pub kind_eq_equiv : IsEquivalence kind_eq
 kind_eq_equiv =
-  and_equiv (and_equiv (on_equiv (λ (k : KindOf). k.source) nat_eq_equiv) (on_equiv (λ (k : KindOf). k.filters) (lists_equiv predicates_equiv)))
+    and_equiv (and_equiv (on_equiv (λ (k : KindOf). k.source) nat_eq_equiv) (on_equiv (λ (k : KindOf). k.filters) (lists_equiv predicates_equiv)))
     (on_equiv (λ (k : KindOf). k.dims) (lists_equiv pair_eq_equiv))
 
 pub tied : (o : Ordering) → is_eq o ≡ true → o ≡ Equal
@@ -45,5 +45,5 @@ pair_alike = and-Alike (on_Alike (λ (p : Pair). p.0) (number_alike fed.u32)) (o
 
 pub kind_alike : Alike kind_eq kind_input
 kind_alike =
-  and-Alike (and-Alike (on_Alike (λ (k : KindOf). k.source) (number_alike fed.u32)) (on_Alike (λ (k : KindOf). k.filters) (items_Alike predicate_alike)))
+    and-Alike (and-Alike (on_Alike (λ (k : KindOf). k.source) (number_alike fed.u32)) (on_Alike (λ (k : KindOf). k.filters) (items_Alike predicate_alike)))
     (on_Alike (λ (k : KindOf). k.dims) (items_Alike pair_alike))

@@ -28,11 +28,7 @@ impl Model for Gathering {
 
 impl Gathering {
     /// A query alone.
-    pub(crate) fn alone(
-        alloc: Global,
-        place: u32,
-        owner: &Arc<Canon>,
-    ) -> Result<Gathering, Memory>
+    pub(crate) fn alone(alloc: Global, place: u32, owner: &Arc<Canon>) -> Result<Gathering, Memory>
         ensures { IfOk result (λ g. g ≡ alone (place, arc_value owner.now)) }
     {
         let mut members = Numbers::new(alloc);

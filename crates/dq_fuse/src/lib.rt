@@ -20,5 +20,5 @@ pub use fusing::fuse;
 pub use group::{Group, Groups};
 pub use laws::keys_cover_members;
 
-
-
+#[cfg(test)]
+mod tests;

@@ -8,4 +8,5 @@ abbrev pub invariant-loop-place : goal.invariant-loop-place
 invariant-loop-place l = record {
   list : l.list.items ≡ gathered (enumerate_from 0 (map arc_value (take l.place l.owner-items)));
   kinds : l.kinds.keys ≡ kinds_of l.list.items;
-  items : map arc_value l.owner-items ≡ l.misses }
+  items : map arc_value l.owner-items ≡ l.misses;
+}
