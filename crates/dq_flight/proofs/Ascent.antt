@@ -51,12 +51,12 @@ ended_steady course = record {
 }
 
 either_bounds : (r b : Bool) (n : ℕ) (f g : FlightOf) (fs : List FlightOf) → nat_lt n f.number ≡ true → nat_lt n g.number ≡ true → above n fs ≡ true
-  → above n ((if r then f ∷ [] else (if b then [] else g ∷ [])) ++ fs) ≡ true
+    → above n ((if r then f ∷ [] else (if b then [] else g ∷ [])) ++ fs) ≡ true
 either_bounds true b n f g fs p q a = one_bounds n f fs p a
 either_bounds false b n f g fs p q a = if_bounds b n g fs q a
 
 either_front : (r b : Bool) (f g : FlightOf) (fs : List FlightOf) → above f.number fs ≡ true → above g.number fs ≡ true → ascends fs ≡ true
-  → ascends ((if r then f ∷ [] else (if b then [] else g ∷ [])) ++ fs) ≡ true
+    → ascends ((if r then f ∷ [] else (if b then [] else g ∷ [])) ++ fs) ≡ true
 either_front true b f g fs p q a = one_front f fs p a
 either_front false b f g fs p q a = if_front b g fs q a
 
@@ -74,7 +74,7 @@ module _ (p : FlightOf → Bool) (g : FlightOf → List FlightOf) (s : Steady g)
   above_replaced : (n : ℕ) (fs : List FlightOf) → above n fs ≡ true → above n (replaced p g fs) ≡ true
   above_replaced n [] a = refl
   above_replaced n (f ∷ fs) a =
-    bounds_step (p f) n f fs (replaced p g fs) (and_left (nat_lt n f.number) (above n fs) a) (and_right (nat_lt n f.number) (above n fs) a)
+      bounds_step (p f) n f fs (replaced p g fs) (and_left (nat_lt n f.number) (above n fs) a) (and_right (nat_lt n f.number) (above n fs) a)
       (above_replaced n fs (and_right (nat_lt n f.number) (above n fs) a))
 
   ascends_step : (b : Bool) (f : FlightOf) (fs rest : List FlightOf) → above f.number fs ≡ true → ascends fs ≡ true → above f.number rest ≡ true → ascends rest ≡ true → ascends (if b then g f ++ fs else f ∷ rest) ≡ true
@@ -84,9 +84,9 @@ module _ (p : FlightOf → Bool) (g : FlightOf → List FlightOf) (s : Steady g)
   pub ascends_replaced : (fs : List FlightOf) → ascends fs ≡ true → ascends (replaced p g fs) ≡ true
   ascends_replaced [] a = refl
   ascends_replaced (f ∷ fs) a =
-    let over = and_left (above f.number fs) (ascends fs) a in
-    let rest = and_right (above f.number fs) (ascends fs) a in
-    ascends_step (p f) f fs (replaced p g fs) over rest (above_replaced f.number fs over) (ascends_replaced fs rest)
+      let over = and_left (above f.number fs) (ascends fs) a in
+      let rest = and_right (above f.number fs) (ascends fs) a in
+      ascends_step (p f) f fs (replaced p g fs) over rest (above_replaced f.number fs over) (ascends_replaced fs rest)
 
 above_end : (n : ℕ) (fs : List FlightOf) (f : FlightOf) → above n fs ≡ true → nat_lt n f.number ≡ true → above n (fs ++ f ∷ []) ≡ true
 above_end n [] f a l = and_both (nat_lt n f.number) true l refl
@@ -96,7 +96,7 @@ above_end n (h ∷ fs) f a l = and_both (nat_lt n h.number) (above n (fs ++ f �
 pub ascends_end : (fs : List FlightOf) (f : FlightOf) → ascends fs ≡ true → list_all (λ h. nat_lt h.number f.number) fs ≡ true → ascends (fs ++ f ∷ []) ≡ true
 ascends_end [] f a l = refl
 ascends_end (h ∷ fs) f a l =
-  and_both (above h.number (fs ++ f ∷ [])) (ascends (fs ++ f ∷ []))
+    and_both (above h.number (fs ++ f ∷ [])) (ascends (fs ++ f ∷ []))
     (above_end h.number fs f (and_left (above h.number fs) (ascends fs) a) (and_left (nat_lt h.number f.number) (list_all (λ k. nat_lt k.number f.number) fs) l))
     (ascends_end fs f (and_right (above h.number fs) (ascends fs) a) (and_right (nat_lt h.number f.number) (list_all (λ k. nat_lt k.number f.number) fs) l))
 
@@ -109,6 +109,6 @@ lowest p [] a = tt
 lowest p (f ∷ fs) a = (elim (p f) as (λ b. p f ≡ b → IfSome (option_map (λ h. h.number) (cond b (Some f) (find p fs))) (λ n. ((not b || nat_le n f.number) && none_below p n fs) ≡ true)) [
   | true ↦ λ e.
       and_both (nat_le f.number f.number) (none_below p f.number fs) (le_same f.number)
-        (all_weaker (λ h. nat_lt f.number h.number) (λ h. not (p h) || nat_le f.number h.number) (λ h l. or_right (not (p h)) (nat_le f.number h.number) (le_below f.number h.number l)) fs (and_left (above f.number fs) (ascends fs) a))
+      (all_weaker (λ h. nat_lt f.number h.number) (λ h. not (p h) || nat_le f.number h.number) (λ h l. or_right (not (p h)) (nat_le f.number h.number) (le_below f.number h.number l)) fs (and_left (above f.number fs) (ascends fs) a))
   | false ↦ λ e. lowest p fs (and_right (above f.number fs) (ascends fs) a)
 ]) refl

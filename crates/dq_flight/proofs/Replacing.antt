@@ -21,11 +21,11 @@ module _ {X : Type 0} (p : X → Bool) where
   at_none xs h = not_below (nat_lt (position_or_len p xs) (length xs)) (position_or_len p xs) (length xs) refl h
 
   find_step : (b : Bool) (x d : X) (xs : List X) (n : ℕ) → cond (not b) (1 + n) 0 < suc (length xs) → (n < length xs → find p xs ≡ Some (get_or xs n d))
-    → cond b (Some x) (find p xs) ≡ Some (get_or (x ∷ xs) (cond (not b) (1 + n) 0) d)
+      → cond b (Some x) (find p xs) ≡ Some (get_or (x ∷ xs) (cond (not b) (1 + n) 0) d)
   find_step true x d xs n l h = refl
   find_step false x d xs n l h =
-    let e : suc n ≡ 1 + n = omega arith in
-    h (omega arith) ∙ ap (λ k. Some (get_or (x ∷ xs) k d)) e
+      let e : suc n ≡ 1 + n = omega arith in
+      h (omega arith) ∙ ap (λ k. Some (get_or (x ∷ xs) k d)) e
 
   found_by : (xs : List X) (d : X) → position_or_len p xs < length xs → find p xs ≡ Some (get_or xs (position_or_len p xs) d)
   found_by [] d l = absurd (omega arith)
@@ -63,12 +63,12 @@ module _ {X : Type 0} (p : X → Bool) where
     replaced_none xs h = none_by xs (at_none xs h)
 
     set_step : (b : Bool) (x y d : X) (xs rest : List X) (n : ℕ) → cond (not b) (1 + n) 0 < suc (length xs) → g (get_or (x ∷ xs) (cond (not b) (1 + n) 0) d) ≡ y ∷ []
-      → (n < length xs → g (get_or xs n d) ≡ y ∷ [] → slice_set xs n y ≡ rest) → slice_set (x ∷ xs) (cond (not b) (1 + n) 0) y ≡ (if b then g x ++ xs else x ∷ rest)
+        → (n < length xs → g (get_or xs n d) ≡ y ∷ [] → slice_set xs n y ≡ rest) → slice_set (x ∷ xs) (cond (not b) (1 + n) 0) y ≡ (if b then g x ++ xs else x ∷ rest)
     set_step true x y d xs rest n l e h = sym (ap (λ ys. ys ++ xs) e)
     set_step false x y d xs rest n l e h =
-      let s : 1 + n ≡ suc n = omega arith in
-      let P : ℕ → Type 0 = λ k. g (get_or (x ∷ xs) k d) ≡ y ∷ [] in
-      ap (λ k. slice_set (x ∷ xs) k y) s ∙ ap (λ ys. x ∷ ys) (h (omega arith) (subst P s e))
+        let s : 1 + n ≡ suc n = omega arith in
+        let P : ℕ → Type 0 = λ k. g (get_or (x ∷ xs) k d) ≡ y ∷ [] in
+        ap (λ k. slice_set (x ∷ xs) k y) s ∙ ap (λ ys. x ∷ ys) (h (omega arith) (subst P s e))
 
     set_by : (xs : List X) (y d : X) → position_or_len p xs < length xs → g (get_or xs (position_or_len p xs) d) ≡ y ∷ [] → slice_set xs (position_or_len p xs) y ≡ replaced p g xs
     set_by [] y d l e = absurd (omega arith)
@@ -77,17 +77,17 @@ module _ {X : Type 0} (p : X → Bool) where
     -- one is replaced by one
     pub replaced_by : (xs : List X) (i : ℕ) (y d : X) → position p xs ≡ Some i → g (get_or xs i d) ≡ y ∷ [] → slice_set xs i y ≡ replaced p g xs
     replaced_by xs i y d h e =
-      let a = at_place xs i h in
-      let P : ℕ → Type 0 = λ n. g (get_or xs n d) ≡ y ∷ [] in
-      ap (λ n. slice_set xs n y) a.0 ∙ set_by xs y d a.1 (subst P a.0 e)
+        let a = at_place xs i h in
+        let P : ℕ → Type 0 = λ n. g (get_or xs n d) ≡ y ∷ [] in
+        ap (λ n. slice_set xs n y) a.0 ∙ set_by xs y d a.1 (subst P a.0 e)
 
     out_step : (b : Bool) (x d : X) (xs rest : List X) (n : ℕ) → cond (not b) (1 + n) 0 < suc (length xs) → g (get_or (x ∷ xs) (cond (not b) (1 + n) 0) d) ≡ []
-      → (n < length xs → g (get_or xs n d) ≡ [] → remove xs n ≡ rest) → remove (x ∷ xs) (cond (not b) (1 + n) 0) ≡ (if b then g x ++ xs else x ∷ rest)
+        → (n < length xs → g (get_or xs n d) ≡ [] → remove xs n ≡ rest) → remove (x ∷ xs) (cond (not b) (1 + n) 0) ≡ (if b then g x ++ xs else x ∷ rest)
     out_step true x d xs rest n l e h = sym (ap (λ ys. ys ++ xs) e)
     out_step false x d xs rest n l e h =
-      let s : 1 + n ≡ suc n = omega arith in
-      let P : ℕ → Type 0 = λ k. g (get_or (x ∷ xs) k d) ≡ [] in
-      ap (λ k. remove (x ∷ xs) k) s ∙ ap (λ ys. x ∷ ys) (h (omega arith) (subst P s e))
+        let s : 1 + n ≡ suc n = omega arith in
+        let P : ℕ → Type 0 = λ k. g (get_or (x ∷ xs) k d) ≡ [] in
+        ap (λ k. remove (x ∷ xs) k) s ∙ ap (λ ys. x ∷ ys) (h (omega arith) (subst P s e))
 
     out_by : (xs : List X) (d : X) → position_or_len p xs < length xs → g (get_or xs (position_or_len p xs) d) ≡ [] → remove xs (position_or_len p xs) ≡ replaced p g xs
     out_by [] d l e = absurd (omega arith)
@@ -96,18 +96,18 @@ module _ {X : Type 0} (p : X → Bool) where
     -- one is taken out
     pub replaced_out : (xs : List X) (i : ℕ) (d : X) → position p xs ≡ Some i → g (get_or xs i d) ≡ [] → remove xs i ≡ replaced p g xs
     replaced_out xs i d h e =
-      let a = at_place xs i h in
-      let P : ℕ → Type 0 = λ n. g (get_or xs n d) ≡ [] in
-      ap (remove xs) a.0 ∙ out_by xs d a.1 (subst P a.0 e)
+        let a = at_place xs i h in
+        let P : ℕ → Type 0 = λ n. g (get_or xs n d) ≡ [] in
+        ap (remove xs) a.0 ∙ out_by xs d a.1 (subst P a.0 e)
 
     same_step : (b : Bool) (x d : X) (xs rest : List X) (n : ℕ) → cond (not b) (1 + n) 0 < suc (length xs)
-      → g (get_or (x ∷ xs) (cond (not b) (1 + n) 0) d) ≡ get_or (x ∷ xs) (cond (not b) (1 + n) 0) d ∷ []
-      → (n < length xs → g (get_or xs n d) ≡ get_or xs n d ∷ [] → xs ≡ rest) → x ∷ xs ≡ (if b then g x ++ xs else x ∷ rest)
+        → g (get_or (x ∷ xs) (cond (not b) (1 + n) 0) d) ≡ get_or (x ∷ xs) (cond (not b) (1 + n) 0) d ∷ []
+        → (n < length xs → g (get_or xs n d) ≡ get_or xs n d ∷ [] → xs ≡ rest) → x ∷ xs ≡ (if b then g x ++ xs else x ∷ rest)
     same_step true x d xs rest n l e h = sym (ap (λ ys. ys ++ xs) e)
     same_step false x d xs rest n l e h =
-      let s : 1 + n ≡ suc n = omega arith in
-      let P : ℕ → Type 0 = λ k. g (get_or (x ∷ xs) k d) ≡ get_or (x ∷ xs) k d ∷ [] in
-      ap (λ ys. x ∷ ys) (h (omega arith) (subst P s e))
+        let s : 1 + n ≡ suc n = omega arith in
+        let P : ℕ → Type 0 = λ k. g (get_or (x ∷ xs) k d) ≡ get_or (x ∷ xs) k d ∷ [] in
+        ap (λ ys. x ∷ ys) (h (omega arith) (subst P s e))
 
     same_by : (xs : List X) (d : X) → position_or_len p xs < length xs → g (get_or xs (position_or_len p xs) d) ≡ get_or xs (position_or_len p xs) d ∷ [] → xs ≡ replaced p g xs
     same_by [] d l e = absurd (omega arith)
@@ -116,6 +116,6 @@ module _ {X : Type 0} (p : X → Bool) where
     -- one is replaced by itself
     pub replaced_same : (xs : List X) (i : ℕ) (d : X) → position p xs ≡ Some i → g (get_or xs i d) ≡ get_or xs i d ∷ [] → xs ≡ replaced p g xs
     replaced_same xs i d h e =
-      let a = at_place xs i h in
-      let P : ℕ → Type 0 = λ n. g (get_or xs n d) ≡ get_or xs n d ∷ [] in
-      same_by xs d a.1 (subst P a.0 e)
+        let a = at_place xs i h in
+        let P : ℕ → Type 0 = λ n. g (get_or xs n d) ≡ get_or xs n d ∷ [] in
+        same_by xs d a.1 (subst P a.0 e)

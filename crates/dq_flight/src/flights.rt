@@ -1,7 +1,7 @@
 ghost use Rattle.std.specs.Arc.{arc_value};
 ghost use Rattle.std.specs.List.{list_all};
 ghost use Rattle.std.specs.Option.{option_map};
-ghost use Rattle.std.specs.Prelude.{◌≡◌, ◌+◌, ◌-◌, ◌^◌, ◌<◌, ◌≤◌, ◌||◌, [], ◌∷◌, ◌++◌, find, length, nat_le, nat_lt, not, position, true, IfSome, IsSomeAnd, OnOk, vec_capacity, vec_len};
+ghost use Rattle.std.specs.Prelude.{◌≡◌, ◌+◌, ◌-◌, ◌^◌, ◌<◌, ◌≤◌, ◌||◌, [], ◌∷◌, ◌++◌, find, length, nat_le, nat_lt, not, position, true, IfSome, IsSomeAnd, IsTrue, OnOk, vec_capacity, vec_len};
 ghost use Rattle.dq_flight.specs.Flights.{Fallen, FlightOf, Landed, Running, ascends, ended, fits, flight_of, is_numbered, joined, replaced, runs, taken};
 ghost use Rattle.dq_flight.specs.Looks.{LooksAt};
 ghost use Rattle.dq_flight.specs.States.{course_of};
@@ -176,5 +176,24 @@ impl Flights {
         let look = self.flights[place].look();
         let_go(&mut self.flights, number, place);
         look
+    }
+}
+
+#[cfg(test)]
+impl Flights {
+    /// Whether a flight may be started under that number.
+    pub(crate) fn may_start(&self, number: u64) -> bool
+        ensures { IsTrue result → (list_all (λ f. nat_lt f.number number) self.now.flights ≡ true) × (0 < self.now.spare) }
+    {
+        self.flights.iter().all(|f| f.number() < number)
+            && self.flights.len() < self.flights.capacity()
+    }
+
+    /// Whether the flight of that number is running, and how many wait for it.
+    pub(crate) fn standing(&self, number: u64) -> Option<(bool, u64)>
+        ensures { result ≡ option_map (λ f. (runs f.course, f.joiners)) (flight_of number self.now.flights) }
+    {
+        let flight = self.flights.iter().find(|f| f.number() == number)?;
+        Some((flight.is_running(), flight.joiners()))
     }
 }

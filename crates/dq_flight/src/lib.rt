@@ -14,3 +14,6 @@ mod look;
 
 pub use flights::Flights;
 pub use look::Look;
+
+#[cfg(test)]
+mod tests;

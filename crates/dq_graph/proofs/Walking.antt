@@ -7,18 +7,18 @@ module _ {A B : Type 0} (f : A → B) where
   drop_from : (n : ℕ) (xs : List A) (i : ℕ) (x : A) → i < length xs → x ≡ get_or xs i x → drop i (enumerate_from n (map f xs)) ≡ (n + i, f x) ∷ drop (suc i) (enumerate_from n (map f xs))
   drop_from n [] i x l e = absurd (omega arith)
   drop_from n (y ∷ ys) zero x l e =
-    let z : n ≡ n + 0 = omega arith in
-    (λ j. (z j, f (sym e j)) ∷ enumerate_from (n + 1) (map f ys))
+      let z : n ≡ n + 0 = omega arith in
+      (λ j. (z j, f (sym e j)) ∷ enumerate_from (n + 1) (map f ys))
   drop_from n (y ∷ ys) (suc i) x l e =
-    let z : n + 1 + i ≡ n + suc i = omega arith in
-    drop_from (n + 1) ys i x (omega arith) e ∙ ap (λ k. (k, f x) ∷ drop (suc i) (enumerate_from (n + 1) (map f ys))) z
+      let z : n + 1 + i ≡ n + suc i = omega arith in
+      drop_from (n + 1) ys i x (omega arith) e ∙ ap (λ k. (k, f x) ∷ drop (suc i) (enumerate_from (n + 1) (map f ys))) z
 
   -- the item of a turn, and those behind it
   pub drop_at : (xs : List A) (i : ℕ) (x : A) → i < length xs → x ≡ get_or xs i x → drop i (enumerate_from 0 (map f xs)) ≡ (i, f x) ∷ drop (i + 1) (enumerate_from 0 (map f xs))
   drop_at xs i x l e =
-    let z : 0 + i ≡ i = omega arith in
-    let s : suc i ≡ i + 1 = omega arith in
-    drop_from 0 xs i x l e ∙ ap (λ k. (k, f x) ∷ drop (suc i) (enumerate_from 0 (map f xs))) z ∙ ap (λ k. (i, f x) ∷ drop k (enumerate_from 0 (map f xs))) s
+      let z : 0 + i ≡ i = omega arith in
+      let s : suc i ≡ i + 1 = omega arith in
+      drop_from 0 xs i x l e ∙ ap (λ k. (k, f x) ∷ drop (suc i) (enumerate_from 0 (map f xs))) z ∙ ap (λ k. (i, f x) ∷ drop k (enumerate_from 0 (map f xs))) s
 
   past_from : (n : ℕ) (xs : List A) (i : ℕ) → length xs ≤ i → drop i (enumerate_from n (map f xs)) ≡ []
   past_from n [] i l = drop_none i
@@ -36,18 +36,18 @@ module _ {A B : Type 0} (f : A → B) where
   take_from : (n : ℕ) (xs : List A) (i : ℕ) (x : A) → i < length xs → x ≡ get_or xs i x → take (suc i) (enumerate_from n (map f xs)) ≡ take i (enumerate_from n (map f xs)) ++ (n + i, f x) ∷ []
   take_from n [] i x l e = absurd (omega arith)
   take_from n (y ∷ ys) zero x l e =
-    let z : n ≡ n + 0 = omega arith in
-    (λ j. (z j, f (sym e j)) ∷ [])
+      let z : n ≡ n + 0 = omega arith in
+      (λ j. (z j, f (sym e j)) ∷ [])
   take_from n (y ∷ ys) (suc i) x l e =
-    let z : n + 1 + i ≡ n + suc i = omega arith in
-    ap (λ zs. (n, f y) ∷ zs) (take_from (n + 1) ys i x (omega arith) e ∙ ap (λ k. take i (enumerate_from (n + 1) (map f ys)) ++ (k, f x) ∷ []) z)
+      let z : n + 1 + i ≡ n + suc i = omega arith in
+      ap (λ zs. (n, f y) ∷ zs) (take_from (n + 1) ys i x (omega arith) e ∙ ap (λ k. take i (enumerate_from (n + 1) (map f ys)) ++ (k, f x) ∷ []) z)
 
   -- the items so far, and that of a turn
   pub take_at : (xs : List A) (i : ℕ) (x : A) → i < length xs → x ≡ get_or xs i x → take (i + 1) (enumerate_from 0 (map f xs)) ≡ take i (enumerate_from 0 (map f xs)) ++ (i, f x) ∷ []
   take_at xs i x l e =
-    let z : 0 + i ≡ i = omega arith in
-    let s : i + 1 ≡ suc i = omega arith in
-    ap (λ k. take k (enumerate_from 0 (map f xs))) s ∙ take_from 0 xs i x l e ∙ ap (λ k. take i (enumerate_from 0 (map f xs)) ++ (k, f x) ∷ []) z
+      let z : 0 + i ≡ i = omega arith in
+      let s : i + 1 ≡ suc i = omega arith in
+      ap (λ k. take k (enumerate_from 0 (map f xs))) s ∙ take_from 0 xs i x l e ∙ ap (λ k. take i (enumerate_from 0 (map f xs)) ++ (k, f x) ∷ []) z
 
   whole_from : (n : ℕ) (xs : List A) (i : ℕ) → length xs ≤ i → take i (enumerate_from n (map f xs)) ≡ enumerate_from n (map f xs)
   whole_from n [] zero l = refl
@@ -62,15 +62,15 @@ module _ {A B : Type 0} (f : A → B) where
   mapped_from : {C : Type 0} (g : (ℕ × B) → C) (n : ℕ) (xs : List A) (i : ℕ) (x : A) (d : C) → i < length xs → x ≡ get_or xs i x → get_or (map g (enumerate_from n (map f xs))) i d ≡ g (n + i, f x)
   mapped_from g n [] i x d l e = absurd (omega arith)
   mapped_from g n (y ∷ ys) zero x d l e =
-    let z : n ≡ n + 0 = omega arith in (λ j. g (z j, f (sym e j)))
+      let z : n ≡ n + 0 = omega arith in (λ j. g (z j, f (sym e j)))
   mapped_from g n (y ∷ ys) (suc i) x d l e =
-    let z : n + 1 + i ≡ n + suc i = omega arith in
-    mapped_from g (n + 1) ys i x d (omega arith) e ∙ ap (λ k. g (k, f x)) z
+      let z : n + 1 + i ≡ n + suc i = omega arith in
+      mapped_from g (n + 1) ys i x d (omega arith) e ∙ ap (λ k. g (k, f x)) z
 
   pub mapped_at : {C : Type 0} (g : (ℕ × B) → C) (xs : List A) (i : ℕ) (x : A) (d : C) → i < length xs → x ≡ get_or xs i x → get_or (map g (enumerate_from 0 (map f xs))) i d ≡ g (i, f x)
   mapped_at g xs i x d l e =
-    let z : 0 + i ≡ i = omega arith in
-    mapped_from g 0 xs i x d l e ∙ ap (λ k. g (k, f x)) z
+      let z : 0 + i ≡ i = omega arith in
+      mapped_from g 0 xs i x d l e ∙ ap (λ k. g (k, f x)) z
 
 length_from : {B : Type 0} (n : ℕ) (xs : List B) → length (enumerate_from n xs) ≡ length xs
 length_from n [] = refl
@@ -88,16 +88,16 @@ length_mapped f g xs = length_map g (enumerate_from 0 (map f xs)) ∙ length_fro
 got_from : {B C : Type 0} (g : (ℕ × B) → C) (n : ℕ) (xs : List B) (i : ℕ) (y : B) (d : C) → slice_get xs i ≡ Some y → get_or (map g (enumerate_from n xs)) i d ≡ g (n + i, y)
 got_from g n [] i y d h = cc
 got_from g n (x ∷ xs) zero y d h =
-  let z : n ≡ n + 0 = omega arith in
-  let e : x ≡ y = cc in (λ j. g (z j, e j))
+    let z : n ≡ n + 0 = omega arith in
+    let e : x ≡ y = cc in (λ j. g (z j, e j))
 got_from g n (x ∷ xs) (suc i) y d h =
-  let z : n + 1 + i ≡ n + suc i = omega arith in
-  got_from g (n + 1) xs i y d h ∙ ap (λ k. g (k, y)) z
+    let z : n + 1 + i ≡ n + suc i = omega arith in
+    got_from g (n + 1) xs i y d h ∙ ap (λ k. g (k, y)) z
 
 pub got_mapped : {B C : Type 0} (g : (ℕ × B) → C) (xs : List B) (i : ℕ) (y : B) (d : C) → slice_get xs i ≡ Some y → get_or (map g (enumerate_from 0 xs)) i d ≡ g (i, y)
 got_mapped g xs i y d h =
-  let z : 0 + i ≡ i = omega arith in
-  got_from g 0 xs i y d h ∙ ap (λ k. g (k, y)) z
+    let z : 0 + i ≡ i = omega arith in
+    got_from g 0 xs i y d h ∙ ap (λ k. g (k, y)) z
 
 pub got_below : {B : Type 0} (xs : List B) (i : ℕ) (y : B) → slice_get xs i ≡ Some y → i < length xs
 got_below [] i y h = cc

@@ -15,3 +15,6 @@ mod splitting;
 pub use laws::sources_are_remote;
 pub use prepared::{Prepared, Roles};
 pub use splitting::split;
+
+#[cfg(test)]
+mod tests;

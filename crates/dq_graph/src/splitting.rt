@@ -65,12 +65,7 @@ fn first_source(batch: &[Arc<Canon>], locals: &[bool], q: &Canon) -> Result<Role
 }
 
 /// The role of the query at a place.
-fn role_at(
-    batch: &[Arc<Canon>],
-    locals: &[bool],
-    place: usize,
-    q: &Canon,
-) -> Result<Role, Memory>
+fn role_at(batch: &[Arc<Canon>], locals: &[bool], place: usize, q: &Canon) -> Result<Role, Memory>
     requires locals { let numbered = enumerate_from 0 (map arc_value batch.now) in locals.now ≡ map (is_local numbered) numbered }
     requires there { slice_get (map arc_value batch.now) place ≡ Some q.now }
     ensures { IfOk result (λ role. role ≡ role_of (enumerate_from 0 (map arc_value batch.now)) (place, q.now)) }

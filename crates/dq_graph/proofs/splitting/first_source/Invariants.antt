@@ -7,5 +7,5 @@ use Rattle.dq_graph.proofs.splitting.first_source.Given as goal
 
 abbrev pub invariant-loop-place : goal.invariant-loop-place
 invariant-loop-place l =
-  find (λ p. not (is_local (enumerate_from 0 (map arc_value l.batch)) p) && covers p.1 l.q) (drop l.place (enumerate_from 0 (map arc_value l.batch)))
-  ≡ find (λ p. not (is_local (enumerate_from 0 (map arc_value l.batch)) p) && covers p.1 l.q) (enumerate_from 0 (map arc_value l.batch))
+    find (λ p. not (is_local (enumerate_from 0 (map arc_value l.batch)) p) && covers p.1 l.q) (drop l.place (enumerate_from 0 (map arc_value l.batch)))
+    ≡ find (λ p. not (is_local (enumerate_from 0 (map arc_value l.batch)) p) && covers p.1 l.q) (enumerate_from 0 (map arc_value l.batch))
