@@ -1,9 +1,9 @@
 -- Entries under distinct numbers, and the first that passes a test.
-use Rattle.std.proofs.Common.{◌≡◌, ◌≢◌, ℕ, filter, not, ◌+◌, ◌-◌, ◌<◌, ◌≤◌, Bool, true, false, cond, eqb, List, [], ◌∷◌, ◌++◌, map, take, length, zero, suc, Option, Some, None, is_some, find, refl, ap, sym, ◌∙◌, arith, rules}
-use Rattle.std.specs.Prelude.{slice_get, if◌then◌else◌, IfSome, IsSome}
+use Rattle.std.proofs.Common.{◌≡◌, ℕ, filter, ◌+◌, ◌<◌, Bool, true, false, cond, eqb, List, [], ◌∷◌, take, length, zero, suc, Option, Some, None, is_some, find, refl, ap, sym, ◌∙◌, arith}
+use Rattle.std.specs.Prelude.{IfSome, IsSome}
 use Rattle.std.proofs.lemmas.Grind.{common_steps}
 use Rattle.std.proofs.lemmas.Map.Keys.{IsDistinct-tail, IsDistinct-head}
-use Rattle.lru.specs.LruCache.{LruCache, promoted, put_entries}
+use Rattle.lru.specs.LruCache.{promoted}
 use Rattle.std.specs.List.{IsDistinct, AllByRecursion}
 use Rattle.std.specs.Map.{keys_of, values_of, lookup, lookup_entry, remove_entry}
 use Rattle.dq_cache.specs.Entries.{put_front, to_front, without_first}

@@ -1,6 +1,6 @@
 -- Stacks after their calls.
-use Rattle.std.proofs.Common.{◌≡◌, ℕ, zero, suc, ◌+◌, ◌-◌, ◌*◌, ◌^◌, ◌<◌, ◌≤◌, Bool, true, false, cond, eqb, List, [], ◌∷◌, ◌++◌, map, take, length, is_some, refl, sym, ap, ◌∙◌, subst, arith, Option, Some, None, append-nil, filter, not}
-use Rattle.std.specs.Prelude.{slice_get, if◌then◌else◌}
+use Rattle.std.proofs.Common.{◌≡◌, ℕ, suc, ◌+◌, ◌-◌, ◌^◌, ◌<◌, ◌≤◌, Bool, true, false, eqb, List, [], ◌∷◌, ◌++◌, take, length, is_some, refl, sym, ap, ◌∙◌, subst, arith, Option, Some, None}
+use Rattle.std.specs.Prelude.{slice_get}
 use Rattle.std.specs.Option.{option_map, option_map_or}
 use Rattle.std.specs.List.{IsDistinct, AllByRecursion}
 use Rattle.std.specs.Map.{keys_of, lookup, lookup_entry, remove_entry}
@@ -10,8 +10,8 @@ use Rattle.std.proofs.lemmas.Grind.{common_steps}
 use Rattle.lru.specs.LruCache.{LruCache, lru_cache, put_entries, promoted, last_entry}
 use Rattle.dq_cache.specs.Entries.{EntryOf, most_cells, without_last, is_of}
 use Rattle.dq_cache.specs.Stacks.{IsStack, all_below, total_of, are_small}
-use Rattle.dq_cache.proofs.Numbers.{not_there, number_there, below_more, below_removed}
-use Rattle.dq_cache.proofs.Totals.{total_cons, total_small, small_cons, small_removed, small_taken, total_removed, total_last, is_small}
+use Rattle.dq_cache.proofs.Numbers.{not_there, number_there}
+use Rattle.dq_cache.proofs.Totals.{total_cons, small_cons, small_removed, small_taken, total_removed, total_last, is_small}
 use Rattle.dq_cover.proofs.CoverLaws.{and_left, and_right}
 use Rattle.std.specs.Prelude.{nat_le}
 
@@ -161,3 +161,13 @@ module _ {T : Type 0} (entry : T → EntryOf) where
     let o : Some u ≡ Some v = h ∙ ap (option_map f) (last_is all es e s) in
     let p : u ≡ v = cc in
     (ap (λ (q : ℕ × Bool). q.0) p, ap (λ (q : ℕ × Bool). q.1) p)
+
+  pub taken_stack : (n total : ℕ) (x : T) (old new : LruCache ℕ T) → IsStack entry old total → lookup (eqb n) old.entries ≡ Some x
+    → new ≡ lru_cache (remove_entry (eqb n) old.entries) old.cap → IsStack entry new (total - (entry x).weight)
+  taken_stack n total x old new s l h =
+    let es : new.entries ≡ remove_entry (eqb n) old.entries = ap (λ (c : LruCache ℕ T). c.entries) h in
+    record {
+      cap = ap (λ (c : LruCache ℕ T). c.cap) h ∙ s.cap;
+      total_is = omega (arith, s.total_is, ap (total_of entry) es, total_removed entry (eqb n) old.entries x l);
+      small = ap (are_small entry) es ∙ small_removed entry (eqb n) old.entries s.small;
+    }

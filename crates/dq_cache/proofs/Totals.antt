@@ -1,10 +1,9 @@
 -- The weights of entries, added up.
-use Rattle.std.proofs.Common.{◌≡◌, ℕ, zero, suc, ◌+◌, ◌-◌, ◌*◌, ◌<◌, ◌≤◌, Bool, true, false, ◌&&◌, cond, List, [], ◌∷◌, ◌++◌, map, take, length, refl, sym, ap, ◌∙◌, subst, arith, Option, Some, None, nat_eq, nat_le, IsSome, sum_by}
-use Rattle.std.specs.List.{list_all, fold, filter}
-use Rattle.std.specs.Prelude.{sum, slice_get}
-use Rattle.std.specs.Map.{lookup, lookup_entry, remove_entry}
+use Rattle.std.proofs.Common.{◌≡◌, ℕ, zero, suc, ◌+◌, ◌-◌, ◌*◌, ◌≤◌, Bool, true, false, cond, List, [], ◌∷◌, take, length, refl, sym, ap, ◌∙◌, arith, Some, nat_le}
+use Rattle.std.specs.Prelude.{slice_get}
+use Rattle.std.specs.Map.{lookup, remove_entry}
 use Rattle.std.proofs.lemmas.Bool.Decides.{nat_tests}
-use Rattle.std.proofs.lemmas.List.Sums.{sum_by-cons, sum_by-append}
+use Rattle.std.proofs.lemmas.List.Sums.{sum_by-cons}
 use Rattle.dq_cover.proofs.CoverLaws.{and_both, and_left, and_right}
 use Rattle.dq_cache.specs.Entries.{EntryOf, most_cells, without_last}
 use Rattle.dq_cache.specs.Stacks.{total_of, are_small}

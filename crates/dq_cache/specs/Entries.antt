@@ -1,5 +1,5 @@
 -- What a cache holds: a list of entries, the most recent first.
-use Rattle.std.specs.Prelude.{◌≡◌, ℕ, zero, suc, ◌+◌, ◌-◌, ◌*◌, Bool, false, ◌&&◌, ◌||◌, nat_eq, nat_lt, List, [], ◌∷◌, map, sum, length, take, find, is_some, Option, Some, None, if◌then◌else◌}
+use Rattle.std.specs.Prelude.{◌≡◌, ℕ, zero, suc, ◌+◌, ◌-◌, ◌*◌, Bool, false, ◌&&◌, ◌||◌, nat_eq, nat_lt, List, [], ◌∷◌, map, sum, length, take, filter, find, Option, Some, None, if◌then◌else◌}
 use Rattle.std.specs.Cmp.Lexicographic.{pointwise}
 use Rattle.dq_base.specs.Covering.{covers, query_eq}
 use Rattle.dq_base.specs.Limits.{most_entries}
@@ -119,3 +119,7 @@ Leaves Memory old kept new = new ≡ old
 Leaves Topped old kept new = new ≡ old
 Leaves TooLarge old kept new = new ≡ old
 Leaves Stale old kept new = new ≡ old
+
+-- the flights of the entries of a source and a stamp
+abbrev pub flights_on : ℕ → ℕ → List EntryOf → List ℕ
+flights_on source stamp es = map (λ e. e.flight) (filter (λ e. nat_eq e.key.source source && nat_eq e.stamp stamp) es)

@@ -9,10 +9,14 @@
 //! take no memory; an answer that isn't kept leaves the cache as it was. One call: `clever.find(stamp, &query)`.
 #![tactic(auto)]
 
+mod clever;
 mod entry;
+mod index;
 mod literal;
+mod shelf;
 mod stack;
 
+pub use clever::Clever;
 pub use entry::Found;
 pub use literal::Literal;
 

@@ -70,6 +70,19 @@ pub(crate) fn replace<T: Held>(
     }
 }
 
+/// Takes the entry of a number out.
+pub(crate) fn take_out<T: Held>(cache: &mut Numbered<T>, total: &mut u128, number: u64)
+    requires stack { IsStack T.entry cache.old total.old }
+    requires there { IsSome (lookup (nat_eq number) cache.old.entries) }
+    ensures stack { IsStack T.entry cache.new total.new }
+    ensures below { (m : ℕ) → all_below m cache.old.entries → all_below m cache.new.entries }
+    ensures list { cache.new.entries ≡ remove_entry (nat_eq number) cache.old.entries }
+{
+    if let Some(held) = cache.pop(&number) {
+        *total -= u128::from(held.entry().weight());
+    }
+}
+
 /// Takes the last entry out.
 pub(crate) fn pop_last<T: Held>(cache: &mut Numbered<T>, total: &mut u128) -> Option<(u64, T)>
     requires stack { IsStack T.entry cache.old total.old }

@@ -1,7 +1,6 @@
-use Rattle.std.proofs.Common.{◌≡◌, ◌+◌, ◌*◌, ◌≤◌, ◌-◌, ◌^◌, ap, ◌∙◌, sym, arith, length}
+use Rattle.std.proofs.Common.{◌≤◌, ◌-◌, ◌^◌, ap, ◌∙◌, arith, length}
 use Rattle.lru.specs.LruCache.{LruCache}
 use Rattle.dq_cache.specs.Entries.{EntryOf}
-use Rattle.dq_cache.specs.Stacks.{IsStack, all_below}
 use Rattle.dq_cache.proofs.Numbers.{below_more}
 use Rattle.dq_cache.proofs.Stacked.{added_list, added_stack}
 use Rattle.dq_cache.proofs.Totals.{total_small}

@@ -2,7 +2,7 @@ use Rattle.std.proofs.Common.{◌≡◌, ℕ, suc, ◌+◌, ◌-◌, ◌<◌, Bo
 use Rattle.std.specs.Prelude.{if◌then◌else◌}
 use Rattle.dq_cache.specs.Entries.{is_of}
 use Rattle.dq_cache.proofs.Numbers.{below_filtered}
-use Rattle.dq_cache.proofs.Rotated.{rotated_end, IsSplit, rotated, split_at, before_turn, after_turn}
+use Rattle.dq_cache.proofs.Rotated.{rotated_end, rotated, split_at, before_turn, after_turn}
 use Rattle.dq_cache.proofs.stack.drop_from.Goals as goal
 
 not_not : (b : Bool) → b ≡ not (not b)

@@ -1,7 +1,7 @@
-use Rattle.std.proofs.Common.{◌≡◌, ℕ, ◌<◌, Bool, ap, ◌∙◌, sym, Some, None, Option, List}
+use Rattle.std.proofs.Common.{ℕ, ap, ◌∙◌, List}
 use Rattle.std.specs.Map.{values_of}
 use Rattle.dq_cache.specs.Entries.{trimmed}
-use Rattle.dq_cache.proofs.Numbers.{Picked, picked, put_picked, put_none}
+use Rattle.dq_cache.proofs.Numbers.{picked, put_picked, put_none}
 use Rattle.dq_cache.proofs.stack.keep.Goals as goal
 
 pub returns-in-Some-clause-below : goal.returns-in-Some-clause-below

@@ -1,7 +1,6 @@
 use Rattle.std.proofs.Common.{◌≡◌, ◌-◌, ap, ◌∙◌, sym, arith, Some, length}
 use Rattle.std.specs.Prelude.{slice_get}
 use Rattle.dq_cache.specs.Entries.{EntryOf}
-use Rattle.dq_cache.specs.Stacks.{all_below}
 use Rattle.dq_cache.proofs.Numbers.{below_taken}
 use Rattle.dq_cache.proofs.Stacked.{popped_stack}
 use Rattle.dq_cache.proofs.Totals.{total_last}

@@ -1,4 +1,4 @@
-use Rattle.std.proofs.Common.{◌≡◌, ap, ◌∙◌, sym, arith, Some, None, length, is_some, true, eqb, ℕ}
+use Rattle.std.proofs.Common.{◌≡◌, ap, ◌∙◌, sym, arith, Some, is_some, eqb, ℕ}
 use Rattle.std.specs.Map.{lookup}
 use Rattle.lru.specs.LruCache.{LruCache, lru_cache, put_entries}
 use Rattle.dq_cache.specs.Entries.{EntryOf}

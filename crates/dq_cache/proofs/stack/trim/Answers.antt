@@ -1,7 +1,6 @@
-use Rattle.std.proofs.Common.{◌≡◌, ℕ, ◌-◌, ◌<◌, ◌+◌, true, false, Bool, map, length, ap, ◌∙◌, sym, arith, refl, List}
-use Rattle.std.specs.Prelude.{sum}
+use Rattle.std.proofs.Common.{ap, ◌∙◌, sym, List}
 use Rattle.std.specs.Map.{values_of}
-use Rattle.dq_cache.specs.Entries.{is_over, trimmed, without_last}
+use Rattle.dq_cache.specs.Entries.{trimmed}
 use Rattle.dq_cache.proofs.Trimmed.{trimmed_over, trimmed_within, weights, sum_weights, length_weights, values_before, over_shorter}
 use Rattle.dq_cache.proofs.stack.trim.Goals as goal
 

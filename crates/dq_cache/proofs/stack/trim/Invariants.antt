@@ -1,4 +1,4 @@
-use Rattle.std.proofs.Common.{◌≡◌, ℕ, length, eqb}
+use Rattle.std.proofs.Common.{◌≡◌, ℕ, length}
 use Rattle.std.specs.Map.{values_of}
 use Rattle.dq_cache.specs.Entries.{trimmed}
 use Rattle.dq_cache.specs.Stacks.{IsStack, all_below}

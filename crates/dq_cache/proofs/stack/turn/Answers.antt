@@ -1,4 +1,4 @@
-use Rattle.std.proofs.Common.{◌≡◌, ℕ, Bool, ap, ◌∙◌, sym, Some, eqb, [], ◌∷◌, ◌++◌, List}
+use Rattle.std.proofs.Common.{ℕ, Bool, ap, ◌∙◌, sym, eqb, ◌∷◌}
 use Rattle.std.specs.Prelude.{if◌then◌else◌}
 use Rattle.lru.specs.LruCache.{LruCache, promoted}
 use Rattle.dq_cache.proofs.Stacked.{before_is, turned_last, promoted_stack, told_of_last}

@@ -1,4 +1,4 @@
-use Rattle.std.proofs.Common.{ap, ◌∙◌, ◌≡◌, sym, not}
+use Rattle.std.proofs.Common.{ap, ◌∙◌, not}
 use Rattle.std.specs.Map.{values_of}
 use Rattle.dq_cache.specs.Entries.{is_of, BodiedOf}
 use Rattle.dq_cache.proofs.Trimmed.{values_filtered}

@@ -1,7 +1,6 @@
-use Rattle.std.proofs.Common.{sym, None, Some, ◌≡◌, eqb, ap, ◌∙◌, Option, find}
-use Rattle.std.specs.Option.{option_map}
+use Rattle.std.proofs.Common.{sym, None, Some, ◌≡◌, eqb, ap, ◌∙◌, find}
 use Rattle.std.specs.Map.{lookup, values_of}
-use Rattle.dq_cache.specs.Entries.{has_body, BodiedOf, EntryOf}
+use Rattle.dq_cache.specs.Entries.{has_body, BodiedOf}
 use Rattle.dq_cache.specs.Stacks.{number_in}
 use Rattle.dq_cache.proofs.Numbers.{Picked, picked, none_picked, to_front_picked, to_front_none, below_promoted}
 use Rattle.dq_cache.proofs.Stacked.{promoted_stack}

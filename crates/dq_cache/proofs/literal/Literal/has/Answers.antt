@@ -1,6 +1,4 @@
-use Rattle.std.proofs.Common.{ap, is_some, ◌∙◌, ◌≡◌, sym}
-use Rattle.std.specs.Prelude.{find}
-use Rattle.std.specs.Map.{values_of}
+use Rattle.std.proofs.Common.{ap, is_some, ◌∙◌}
 use Rattle.dq_cache.specs.Entries.{has_body}
 use Rattle.dq_cache.specs.Stacks.{number_in}
 use Rattle.dq_cache.proofs.Numbers.{is_some-number_in}

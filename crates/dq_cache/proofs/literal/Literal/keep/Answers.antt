@@ -1,7 +1,7 @@
-use Rattle.std.proofs.Common.{◌≡◌, ap, ◌∙◌, sym, Some, None, Option, is_some, true, false, eqb, ℕ, List}
+use Rattle.std.proofs.Common.{◌≡◌, ap, ◌∙◌, sym, is_some, true, false, ℕ, List}
 use Rattle.std.specs.Arc.{arc_value}
-use Rattle.std.specs.Prelude.{find, IfSome, IsSome}
-use Rattle.std.specs.Map.{lookup, values_of}
+use Rattle.std.specs.Prelude.{find}
+use Rattle.std.specs.Map.{values_of}
 use Rattle.dq_cache.specs.Entries.{has_body, BodiedOf, EntryOf, LiteralOf, cells_of, put_front, trimmed, weight_of}
 use Rattle.dq_cache.specs.Stacks.{number_in}
 use Rattle.dq_cache.proofs.Numbers.{number_known, is_some-number_in}
