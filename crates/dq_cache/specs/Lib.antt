@@ -1,0 +1,5 @@
+pub mod Clevers
+pub mod Entries
+pub mod Finds
+pub mod Shelves
+pub mod Stacks

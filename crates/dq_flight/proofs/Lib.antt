@@ -1,0 +1,3 @@
+pub mod Ascent
+pub mod Made
+pub mod Replacing

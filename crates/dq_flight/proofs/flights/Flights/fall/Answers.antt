@@ -1,0 +1,8 @@
+use Rattle.std.proofs.Common.{ap, ◌∙◌}
+use Rattle.std.specs.Arc.{arc_value}
+use Rattle.dq_flight.specs.Flights.{Fallen, Landed, ascends, ended, is_numbered, joined}
+use Rattle.dq_flight.proofs.Ascent.{ascends_replaced, ended_steady, joined_steady}
+use Rattle.dq_flight.proofs.flights.Flights.fall.Goals as goal
+
+pub invariant_of-self : goal.invariant_of-self
+invariant_of-self c = ap ascends c.end.ensures.items ∙ ascends_replaced (is_numbered c.args.number) (ended Fallen) (ended_steady Fallen) c.self.inside.flights.items c.self.invariant

@@ -1,0 +1,5 @@
+pub mod Grouping
+pub mod Inserted
+pub mod KeysCover
+pub mod SameKind
+pub mod SameMeasure

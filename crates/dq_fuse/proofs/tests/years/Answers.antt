@@ -1,0 +1,12 @@
+use Rattle.std.proofs.Common.{◌≡◌, subst, sym, List}
+use Rattle.dq_base.proofs.SetLaws.{Ascends, ascends_with, set_of_fixed}
+use Rattle.dq_base.specs.Orders.{value_cmp}
+use Rattle.dq_base.specs.ValueOrder.{value_cmp_total}
+use Rattle.dq_base.specs.declared.value.Value.{Value}
+use Rattle.dq_fuse.proofs.tests.years.Goals as goal
+
+pub loop-year-preserved : goal.loop-year-preserved
+loop-year-preserved c = rw c.in_ok-put.ensures.ok (ascends_with value_cmp value_cmp_total _ c.loop-year.list c.loop-year.invariant)
+
+pub returns : goal.returns
+returns c = set_of_fixed value_cmp value_cmp_total c.loop-year.list c.loop-year.invariant

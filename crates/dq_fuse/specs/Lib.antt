@@ -1,0 +1,5 @@
+pub mod Gathered
+pub mod KindLaws
+pub mod Kinds
+pub mod Shown
+pub mod Covered
