@@ -46,7 +46,8 @@ placed-append : (t : Bool) (k : ℕ) (e : Entry) (xs ys : List (ℕ × Entry)) �
 placed-append true k e xs ys = refl
 placed-append false k e xs ys = refl
 
-made_from-append : (n lane : ℕ) (xs ys : List Entry) → made_from n lane (xs ++ ys) ≡ made_from n lane xs ++ made_from (n + length xs) lane ys
+-- of two journals, one behind the other
+pub made_from-append : (n lane : ℕ) (xs ys : List Entry) → made_from n lane (xs ++ ys) ≡ made_from n lane xs ++ made_from (n + length xs) lane ys
 made_from-append n lane [] ys = ap (λ k. made_from k lane ys) (omega arith)
 made_from-append n lane (x ∷ xs) ys =
     ap (placed (eqb (lane_of x) lane) (n + 1) x) (made_from-append (n + 1) lane xs ys ∙ ap (λ k. made_from (n + 1) lane xs ++ made_from k lane ys) (omega arith))
