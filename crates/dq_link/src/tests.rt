@@ -28,10 +28,28 @@ impl Model for Kept {
     ghost view = { λ k. record { stamp = k.stamp; version = arc_value k.extract } };
 }
 
-/// A link that mounts the first source's versions, and finds no memory for anything else; or whose calls all fail.
+#[derive(Drop)]
+struct Held {
+    number: u64,
+    list: Arc<Values>,
+}
+
+impl Model for Held {
+    ghost use Rattle.std.specs.Arc.{arc_value};
+    ghost use Rattle.std.specs.Prelude.{List as ListOf, ℕ};
+    ghost use Rattle.dq_base.specs.declared.value.Value.{Value as OneValue};
+
+    ghost Value = { ℕ × ListOf OneValue };
+
+    ghost view = { λ h. (h.number, arc_value h.list) };
+}
+
+/// A link that mounts the first source's versions and holds one table, and finds no memory for anything else; or whose calls all
+/// fail.
 #[derive(Drop)]
 struct Mounting {
     mounted: Option<Kept>,
+    held: Option<Held>,
     fails: bool,
     faults: u64,
     runs: u64,
@@ -39,11 +57,12 @@ struct Mounting {
 }
 
 impl Link for Mounting {
-    ghost use Rattle.std.specs.Prelude.{None, nat_eq, if◌then◌else◌};
+    ghost use Rattle.std.specs.Option.{option_and_then};
+    ghost use Rattle.std.specs.Prelude.{None, Some, nat_eq, if◌then◌else◌};
 
     ghost mounts = { λ s n. if nat_eq n 0 then s.mounted else None };
 
-    ghost tables = { λ s n. None };
+    ghost tables = { λ s n. option_and_then (λ h. if nat_eq n h.0 then Some h.1 else None) s.held };
 
     ghost faults = { λ s. s.faults };
 
@@ -75,15 +94,19 @@ impl Link for Mounting {
     fn put_table(
         &mut self,
         _alloc: Global,
-        _name: u64,
-        _list: Arc<Values>,
+        number: u64,
+        list: Arc<Values>,
     ) -> Result<(), LinkFault> {
         self.calls += 1;
-        if !self.fails {
+        if self.fails {
+            self.faults = self.faults.saturating_add(1);
+            return Err(LinkFault::Failed);
+        }
+        if self.held.is_some() {
             return Err(LinkFault::Memory);
         }
-        self.faults = self.faults.saturating_add(1);
-        Err(LinkFault::Failed)
+        self.held = Some(Held { number, list });
+        Ok(())
     }
 
     fn drop_table(&mut self, _alloc: Global, _name: u64) -> Result<(), LinkFault> {
@@ -117,6 +140,7 @@ fn third(alloc: Global, fails: bool) -> Pooled<Mounting>
 {
     let link = Mounting {
         mounted: None,
+        held: None,
         fails,
         faults: 0,
         runs: 0,
