@@ -1,10 +1,10 @@
 -- The key of a group is valid where each of its members is.
-use Rattle.std.proofs.Common.{◌≡◌, ℕ, zero, suc, ◌+◌, ◌*◌, ◌<◌, ◌≤◌, Bool, true, false, not, ◌||◌, ◌&&◌, cond, eqb, nat_eq, List, [], ◌∷◌, ◌++◌, map, length, refl, sym, ap, ◌∙◌, arith, subst, Option, Some, None, length-map}
+use Rattle.std.proofs.Common.{◌≡◌, ℕ, zero, suc, ◌+◌, ◌*◌, ◌<◌, ◌≤◌, Bool, true, false, not, ◌||◌, ◌&&◌, cond, eqb, nat_eq, List, [], ◌∷◌, ◌++◌, map, length, refl, sym, ap, ◌∙◌, arith, subst, Option, Some, None}
 use Rattle.std.specs.Prelude.{if◌then◌else◌, is_none, nat_le, nat_lt, slice_get, ◌==◌}
 use Rattle.std.specs.List.{list_all, list_any, filter, fold, enumerate_from, IsDistinct}
-use Rattle.core.specs.Cmp.{nat_eq_equiv}
+use Rattle.std.proofs.lemmas.Cmp.{nat_eq_equiv}
 use Rattle.std.proofs.lemmas.Bool.Decides.{nat_tests}
-use Rattle.std.proofs.lemmas.List.{map-append}
+use Rattle.std.proofs.lemmas.List.{length-map, map-append}
 use Rattle.std.proofs.lemmas.List.Folds.{list_all-append}
 use Rattle.std.proofs.lemmas.Map.Keys.{IsDistinct-push}
 use Rattle.std.proofs.lemmas.Map.Steps.{length-le_from_distinct_below}
@@ -143,7 +143,7 @@ any_low n q (m ∷ ms) l a h = (elim (eqb q (place_of m)) as (λ b. eqb q (place
 few : (n : ℕ) (ms : List Measure) → n ≤ 64 → list_all (stands n) ms ≡ true → IsSet ms → length ms ≤ 385
 few n ms l a d =
     let within = length-le_from_distinct_below (map place_of ms) 385 d (λ q h. any_low n q ms l a h) in
-    omega (arith, within, length-map place_of ms)
+    omega (arith, within, length-map ms place_of)
 
 -- the reasons, one by one
 
@@ -235,6 +235,7 @@ some_shown (u ∷ us) ms h l = omega arith
 
 fused_valid : (schemas : List Heading) (q : Query) (ms : List Query) → list_all is_narrow schemas ≡ true → is_valid schemas q ≡ true → list_all (fuses q) ms ≡ true → list_all (is_valid schemas) ms ≡ true
   → is_valid schemas (with_measures q (union (q ∷ ms))) ≡ true
+unfolding IsDistinct
 fused_valid schemas q ms narrow v f vs =
     let k = known (slice_get schemas q.source) q v in
     let s = k.0 in
