@@ -53,11 +53,11 @@ module _ (test : Query → Bool) where
   find_numbers : (es fs : List Numbered) → AllThere es fs → find (passes_at test es) (map (λ f. f.0) fs) ≡ number_in (λ (e : EntryOf). test e.key) fs
   find_numbers es [] t = refl
   find_numbers es (f ∷ fs) t =
-    ap (λ b. cond b (Some f.0) (find (passes_at test es) (map (λ g. g.0) fs))) (passes_is es f t.0)
-    ∙ ap (λ o. cond (test f.1.key) (Some f.0) o) (find_numbers es fs t.1)
+      ap (λ b. cond b (Some f.0) (find (passes_at test es) (map (λ g. g.0) fs))) (passes_is es f t.0)
+      ∙ ap (λ o. cond (test f.1.key) (Some f.0) o) (find_numbers es fs t.1)
 
   on_case : (a s c : Bool) (n : ℕ) (fs : List Numbered) (f : Numbered) (o : Option ℕ) → test f.1.key ≡ c → n ≡ f.0 → (c ≡ true → a ≡ true) → o ≡ number_in (λ (e : EntryOf). test e.key) fs
-    → cond (s && c) (Some n) o ≡ number_in (λ (e : EntryOf). test e.key) (cond (a && s) (f ∷ fs) fs)
+      → cond (s && c) (Some n) o ≡ number_in (λ (e : EntryOf). test e.key) (cond (a && s) (f ∷ fs) fs)
   on_case true true true n fs f o e m h i = ap Some m ∙ sym (ap (λ b. cond b (Some f.0) (number_in (λ (g : EntryOf). test g.key) fs)) e)
   on_case true true false n fs f o e m h i = i ∙ sym (ap (λ b. cond b (Some f.0) (number_in (λ (g : EntryOf). test g.key) fs)) e)
   on_case true false c n fs f o e m h i = i
@@ -67,26 +67,26 @@ module _ (test : Query → Bool) where
 
   -- on their shelf
   on_one : (source stamp : ℕ) → ((key : Query) → test key ≡ true → nat_eq key.source source ≡ true) → (es : List Numbered)
-    → number_in (λ (e : EntryOf). nat_eq e.stamp stamp && test e.key) es ≡ number_in (λ (e : EntryOf). test e.key) (on_shelf (source, stamp) es)
+      → number_in (λ (e : EntryOf). nat_eq e.stamp stamp && test e.key) es ≡ number_in (λ (e : EntryOf). test e.key) (on_shelf (source, stamp) es)
   on_one source stamp h [] = refl
   on_one source stamp h (f ∷ fs) =
-    on_case (nat_eq f.1.key.source source) (nat_eq f.1.stamp stamp) (test f.1.key) f.0 (on_shelf (source, stamp) fs) f
+      on_case (nat_eq f.1.key.source source) (nat_eq f.1.stamp stamp) (test f.1.key) f.0 (on_shelf (source, stamp) fs) f
       (number_in (λ (e : EntryOf). nat_eq e.stamp stamp && test e.key) fs) refl refl (h f.1.key) (on_one source stamp h fs)
 
   pub looked_up : (source stamp : ℕ) → ((key : Query) → test key ≡ true → nat_eq key.source source ≡ true) → (es : List Numbered) (s : Shelf) → IsDistinct eqb (keys_of es) → Some s ≡ shelf_of (on_shelf (source, stamp) es)
-    → find (passes_at test es) s.numbers ≡ number_in (λ (e : EntryOf). nat_eq e.stamp stamp && test e.key) es
+      → find (passes_at test es) s.numbers ≡ number_in (λ (e : EntryOf). nat_eq e.stamp stamp && test e.key) es
   looked_up source stamp h es s d e =
-    let place : Place = (source, stamp) in
-    let parts = shelf_some s (on_shelf place es) e in
-    ap (find (passes_at test es)) parts.1
-    ∙ find_numbers es (on_shelf place es) (filter_there (is_on place) es es (all_there es d))
-    ∙ sym (on_one source stamp h es)
+      let place : Place = (source, stamp) in
+      let parts = shelf_some s (on_shelf place es) e in
+      ap (find (passes_at test es)) parts.1
+      ∙ find_numbers es (on_shelf place es) (filter_there (is_on place) es es (all_there es d))
+      ∙ sym (on_one source stamp h es)
 
   pub looked_none : (source stamp : ℕ) → ((key : Query) → test key ≡ true → nat_eq key.source source ≡ true) → (es : List Numbered) → None ≡ shelf_of (on_shelf (source, stamp) es)
-    → None ≡ number_in (λ (e : EntryOf). nat_eq e.stamp stamp && test e.key) es
+      → None ≡ number_in (λ (e : EntryOf). nat_eq e.stamp stamp && test e.key) es
   looked_none source stamp h es e =
-    let place : Place = (source, stamp) in
-    sym (on_one source stamp h es ∙ ap (number_in (λ (f : EntryOf). test f.key)) (no_shelf (on_shelf place es) e))
+      let place : Place = (source, stamp) in
+      sym (on_one source stamp h es ∙ ap (number_in (λ (f : EntryOf). test f.key)) (no_shelf (on_shelf place es) e))
 
 -- what covers a query, or equals it, has its source
 pub covers_source : (q key : Query) → covers key q ≡ true → nat_eq key.source q.source ≡ true
@@ -114,17 +114,17 @@ found_passes test (y ∷ xs) x h = (elim (test y) as (λ b. test y ≡ b → tes
 
 pub place_fits : (stamp : ℕ) (q : Query) (n : ℕ) (es : List Numbered) (p : Picked (fits stamp q) n es) → ◌≡◌ {A = Place} (q.source, stamp) (place_of p.held)
 place_fits stamp q n es p =
-  let t = found_passes (fits stamp q) (values_of es) p.held p.first in
-  let s = exact_numbers p.held.stamp stamp (and_left (nat_eq p.held.stamp stamp) (covers p.held.key q) t) in
-  let k = exact_numbers p.held.key.source q.source (covers_source q p.held.key (and_right (nat_eq p.held.stamp stamp) (covers p.held.key q) t)) in
-  λ i. (sym k i, sym s i)
+    let t = found_passes (fits stamp q) (values_of es) p.held p.first in
+    let s = exact_numbers p.held.stamp stamp (and_left (nat_eq p.held.stamp stamp) (covers p.held.key q) t) in
+    let k = exact_numbers p.held.key.source q.source (covers_source q p.held.key (and_right (nat_eq p.held.stamp stamp) (covers p.held.key q) t)) in
+    λ i. (sym k i, sym s i)
 
 pub place_same : (stamp : ℕ) (q : Query) (n : ℕ) (es : List Numbered) (p : Picked (is_same stamp q) n es) → ◌≡◌ {A = Place} (place_of p.held) (q.source, stamp)
 place_same stamp q n es p =
-  let t = found_passes (is_same stamp q) (values_of es) p.held p.first in
-  let s = exact_numbers p.held.stamp stamp (and_left (nat_eq p.held.stamp stamp) (query_eq p.held.key q) t) in
-  let k = exact_numbers p.held.key.source q.source (equal_source q p.held.key (and_right (nat_eq p.held.stamp stamp) (query_eq p.held.key q) t)) in
-  λ i. (k i, s i)
+    let t = found_passes (is_same stamp q) (values_of es) p.held p.first in
+    let s = exact_numbers p.held.stamp stamp (and_left (nat_eq p.held.stamp stamp) (query_eq p.held.key q) t) in
+    let k = exact_numbers p.held.key.source q.source (equal_source q p.held.key (and_right (nat_eq p.held.stamp stamp) (query_eq p.held.key q) t)) in
+    λ i. (k i, s i)
 
 pub promoted_is : {X : Type 0} (n : ℕ) (es : List (ℕ × X)) (x : X) → lookup_entry (eqb n) es ≡ Some (n, x) → (n, x) ∷ remove_entry (eqb n) es ≡ promoted (eqb n) es
 promoted_is n es x h = rw h refl
@@ -135,18 +135,18 @@ pub split_last : {X : Type 0} (es : List X) (e : X) → slice_get es (length es 
 split_last [] e h = cc
 split_last (f ∷ []) e h = let same : f ≡ e = cc in ap (λ x. x ∷ []) same
 split_last (f ∷ g ∷ es) e h =
-  let n : length (f ∷ g ∷ es) - 1 ≡ suc (length es) = omega arith in
-  let m : length (g ∷ es) - 1 ≡ length es = omega arith in
-  let k : suc (length (g ∷ es) - 1) ≡ suc (length es) = omega arith in
-  let on = split_last (g ∷ es) e (ap (slice_get (g ∷ es)) m ∙ ap (λ i. slice_get (f ∷ g ∷ es) i) (sym n) ∙ h) in
-  ap (λ xs. f ∷ xs) on ∙ ap (λ i. take i (f ∷ g ∷ es) ++ e ∷ []) (k ∙ sym n)
+    let n : length (f ∷ g ∷ es) - 1 ≡ suc (length es) = omega arith in
+    let m : length (g ∷ es) - 1 ≡ length es = omega arith in
+    let k : suc (length (g ∷ es) - 1) ≡ suc (length es) = omega arith in
+    let on = split_last (g ∷ es) e (ap (slice_get (g ∷ es)) m ∙ ap (λ i. slice_get (f ∷ g ∷ es) i) (sym n) ∙ h) in
+    ap (λ xs. f ∷ xs) on ∙ ap (λ i. take i (f ∷ g ∷ es) ++ e ∷ []) (k ∙ sym n)
 
 some_last : {X : Type 0} (x : X) (xs : List X) → slice_get (x ∷ xs) (length (x ∷ xs) - 1) ≡ None → ⊥
 some_last x [] h = cc
 some_last x (y ∷ xs) h =
-  let n : length (x ∷ y ∷ xs) - 1 ≡ suc (length xs) = omega arith in
-  let m : length (y ∷ xs) - 1 ≡ length xs = omega arith in
-  some_last y xs (ap (slice_get (y ∷ xs)) m ∙ ap (λ i. slice_get (x ∷ y ∷ xs) i) (sym n) ∙ h)
+    let n : length (x ∷ y ∷ xs) - 1 ≡ suc (length xs) = omega arith in
+    let m : length (y ∷ xs) - 1 ≡ length xs = omega arith in
+    some_last y xs (ap (slice_get (y ∷ xs)) m ∙ ap (λ i. slice_get (x ∷ y ∷ xs) i) (sym n) ∙ h)
 
 pub none_last : {X : Type 0} (es : List X) → slice_get es (length es - 1) ≡ None → es ≡ []
 none_last [] h = refl
@@ -161,17 +161,17 @@ removed_front n x es = let own = eqb_own n in rw own refl
 
 -- the flights of a shelf
 flights_case : (b : Bool) (f : Numbered) (fs : List Numbered) (gs : List EntryOf) → map (λ (g : Numbered). g.1.flight) fs ≡ map (λ (e : EntryOf). e.flight) gs
-  → map (λ (g : Numbered). g.1.flight) (cond b (f ∷ fs) fs) ≡ map (λ (e : EntryOf). e.flight) (cond b (f.1 ∷ gs) gs)
+    → map (λ (g : Numbered). g.1.flight) (cond b (f ∷ fs) fs) ≡ map (λ (e : EntryOf). e.flight) (cond b (f.1 ∷ gs) gs)
 flights_case true f fs gs h = ap (λ ns. f.1.flight ∷ ns) h
 flights_case false f fs gs h = h
 
 pub flights_numbered : (source stamp : ℕ) (es : List Numbered) → map (λ (g : Numbered). g.1.flight) (on_shelf (source, stamp) es) ≡ flights_on source stamp (values_of es)
 flights_numbered source stamp [] = refl
 flights_numbered source stamp (f ∷ fs) =
-  flights_case (nat_eq f.1.key.source source && nat_eq f.1.stamp stamp) f (on_shelf (source, stamp) fs)
+    flights_case (nat_eq f.1.key.source source && nat_eq f.1.stamp stamp) f (on_shelf (source, stamp) fs)
     (filter (λ (e : EntryOf). nat_eq e.key.source source && nat_eq e.stamp stamp) (values_of fs)) (flights_numbered source stamp fs)
 
 pub put_matched : (b : Bool) (test : EntryOf → Bool) (n : ℕ) (x : EntryOf) (es new : List Numbered) → number_in test es ≡ None → MatchBool b (new ≡ (n, x) ∷ es) (new ≡ es)
-  → MatchBool b (values_of new ≡ put_front test x (values_of es)) (new ≡ es)
+    → MatchBool b (values_of new ≡ put_front test x (values_of es)) (new ≡ es)
 put_matched true test n x es new h m = ap values_of m ∙ put_none test n x es h
 put_matched false test n x es new h m = m

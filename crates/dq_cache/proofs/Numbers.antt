@@ -113,8 +113,8 @@ module _ {T : Type 0} where
 
   pub number_there : (n : ℕ) (es : List (ℕ × T)) → is_some (lookup (eqb n) es) ≡ true → (x : T) × (lookup_entry (eqb n) es ≡ Some (n, x)) × (lookup (eqb n) es ≡ Some x)
   number_there n es h =
-    let w = entry_there (eqb n) es h in
-    (w.0.1, w.1 ∙ ap (λ m. Some (m, w.0.1)) (number_is n w.0.0 w.3), w.2)
+      let w = entry_there (eqb n) es h in
+      (w.0.1, w.1 ∙ ap (λ m. Some (m, w.0.1)) (number_is n w.0.0 w.3), w.2)
 
   length_values : (es : List (ℕ × T)) → length (values_of es) ≡ length es
   length_values [] = refl

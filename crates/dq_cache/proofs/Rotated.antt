@@ -40,5 +40,5 @@ module _ {X : Type 0} (keep : X → Bool) where
 
   pub after_turn : (xs : List X) (k : ℕ) (s : IsSplit xs k) → (if not (keep s.item) then (filter keep (drop (suc k) xs) ++ take k xs) else s.item ∷ (filter keep (drop (suc k) xs) ++ take k xs)) ≡ rotated xs k
   after_turn xs k s =
-    chosen (keep s.item) s.item (filter keep (drop (suc k) xs)) (take k xs)
-    ∙ ap (λ ys. filter keep ys ++ take k xs) (sym s.dropped)
+      chosen (keep s.item) s.item (filter keep (drop (suc k) xs)) (take k xs)
+      ∙ ap (λ ys. filter keep ys ++ take k xs) (sym s.dropped)

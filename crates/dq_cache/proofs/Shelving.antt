@@ -31,9 +31,9 @@ at_is k q = then_tied (nat_cmp k.0 q.0) (nat_cmp k.1 q.1) ∙ ap (λ x. x && is_
 
 at_exact : (k q : Place) → is_at (place_cmp k) q ≡ true → k ≡ q
 at_exact k q h =
-  let t = sym (at_is k q) ∙ h in
-  ap (λ (x : ℕ). let p : Place = (x, k.1) in p) (exact_numbers k.0 q.0 (and_left (nat_eq k.0 q.0) (nat_eq k.1 q.1) t))
-  ∙ ap (λ (x : ℕ). let p : Place = (q.0, x) in p) (exact_numbers k.1 q.1 (and_right (nat_eq k.0 q.0) (nat_eq k.1 q.1) t))
+    let t = sym (at_is k q) ∙ h in
+    ap (λ (x : ℕ). let p : Place = (x, k.1) in p) (exact_numbers k.0 q.0 (and_left (nat_eq k.0 q.0) (nat_eq k.1 q.1) t))
+    ∙ ap (λ (x : ℕ). let p : Place = (q.0, x) in p) (exact_numbers k.1 q.1 (and_right (nat_eq k.0 q.0) (nat_eq k.1 q.1) t))
 
 at_self : (k : Place) → is_at (place_cmp k) k ≡ true
 at_self k = at_is k k ∙ and_both (nat_eq k.0 k.0) (nat_eq k.1 k.1) (number_same k.0) (number_same k.1)
@@ -52,22 +52,22 @@ Changed old new k w = (q : Place) → get place_cmp new q ≡ cond (is_at (place
 
 -- one shelf is another one, and the entries of the other places are the same
 pub index_with : (old new : BTreeMap Place Shelf) (k : Place) (w : Option Shelf) (es fs : List Numbered) → IsIndex old es → Changed old new k w → w ≡ shelf_of (on_shelf k fs)
-  → ((q : Place) → is_at (place_cmp k) q ≡ false → on_shelf q fs ≡ on_shelf q es) → IsIndex new fs
+    → ((q : Place) → is_at (place_cmp k) q ≡ false → on_shelf q fs ≡ on_shelf q es) → IsIndex new fs
 index_with old new k w es fs i u h o = λ q.
-  (elim (is_at (place_cmp k) q) as (λ b. is_at (place_cmp k) q ≡ b → get place_cmp new q ≡ shelf_of (on_shelf q fs)) [
-    | true ↦ λ e. u q ∙ ap (λ b. cond b w (get place_cmp old q)) e ∙ h ∙ ap (λ p. shelf_of (on_shelf p fs)) (at_exact k q e)
-    | false ↦ λ e. u q ∙ ap (λ b. cond b w (get place_cmp old q)) e ∙ i q ∙ ap shelf_of (sym (o q e))
-  ]) refl
+    (elim (is_at (place_cmp k) q) as (λ b. is_at (place_cmp k) q ≡ b → get place_cmp new q ≡ shelf_of (on_shelf q fs)) [
+      | true ↦ λ e. u q ∙ ap (λ b. cond b w (get place_cmp old q)) e ∙ h ∙ ap (λ p. shelf_of (on_shelf p fs)) (at_exact k q e)
+      | false ↦ λ e. u q ∙ ap (λ b. cond b w (get place_cmp old q)) e ∙ i q ∙ ap shelf_of (sym (o q e))
+    ]) refl
 
 -- an entry more at the front
 
 pub cons_shelf : (s : Shelf) (es : List Numbered) (n flight : ℕ) (e : EntryOf) → Some s ≡ shelf_of es → flight ≡ e.flight
-  → Some (record { flights = flight ∷ s.flights; numbers = n ∷ s.numbers }) ≡ shelf_of ((n, e) ∷ es)
+    → Some (record { flights = flight ∷ s.flights; numbers = n ∷ s.numbers }) ≡ shelf_of ((n, e) ∷ es)
 cons_shelf s [] n flight e h f = cc
 cons_shelf s (x ∷ xs) n flight e h f =
-  let o : Shelf = record { flights = map (λ y. y.1.flight) (x ∷ xs); numbers = map (λ y. y.0) (x ∷ xs) } in
-  let same : s ≡ o = cc in
-  (λ i. Some (record { flights = f i ∷ (same i).flights; numbers = n ∷ (same i).numbers }))
+    let o : Shelf = record { flights = map (λ y. y.1.flight) (x ∷ xs); numbers = map (λ y. y.0) (x ∷ xs) } in
+    let same : s ≡ o = cc in
+    (λ i. Some (record { flights = f i ∷ (same i).flights; numbers = n ∷ (same i).numbers }))
 
 pub no_shelf : (es : List Numbered) → None ≡ shelf_of es → es ≡ []
 no_shelf [] h = refl
@@ -97,9 +97,9 @@ nonempty (x ∷ xs) y = omega arith
 before_last : {X : Type 0} (es : List X) (e : X) → without_last (es ++ e ∷ []) ≡ es
 before_last [] e = refl
 before_last (f ∷ es) e =
-  let n : length (f ∷ (es ++ e ∷ [])) - 1 ≡ length (es ++ e ∷ []) = omega arith in
-  let m : length (es ++ e ∷ []) ≡ suc (length (es ++ e ∷ []) - 1) = omega (arith, nonempty es e) in
-  ap (λ k. take k (f ∷ (es ++ e ∷ []))) (n ∙ m) ∙ ap (λ fs. f ∷ fs) (before_last es e)
+    let n : length (f ∷ (es ++ e ∷ [])) - 1 ≡ length (es ++ e ∷ []) = omega arith in
+    let m : length (es ++ e ∷ []) ≡ suc (length (es ++ e ∷ []) - 1) = omega (arith, nonempty es e) in
+    ap (λ k. take k (f ∷ (es ++ e ∷ []))) (n ∙ m) ∙ ap (λ fs. f ∷ fs) (before_last es e)
 
 shelf_end : (es : List Numbered) (e : Numbered) → shelf_of (es ++ e ∷ []) ≡ Some (record { flights = map (λ f. f.1.flight) (es ++ e ∷ []); numbers = map (λ f. f.0) (es ++ e ∷ []) })
 shelf_end [] e = refl
@@ -110,15 +110,16 @@ without_end f es e = ap without_last (map-append f es (e ∷ [])) ∙ before_las
 
 pub last_shelf : (s : Shelf) (es : List Numbered) (e : Numbered) → Some s ≡ shelf_of (es ++ e ∷ []) → (without_last s.flights ≡ map (λ f. f.1.flight) es) × (without_last s.numbers ≡ map (λ f. f.0) es)
 last_shelf s es e h =
-  let o : Shelf = record { flights = map (λ f. f.1.flight) (es ++ e ∷ []); numbers = map (λ f. f.0) (es ++ e ∷ []) } in
-  let t : Some s ≡ Some o = h ∙ shelf_end es e in
-  let same : s ≡ o = cc in
-  (ap (λ (x : Shelf). without_last x.flights) same ∙ without_end (λ f. f.1.flight) es e,
-   ap (λ (x : Shelf). without_last x.numbers) same ∙ without_end (λ f. f.0) es e)
+    let o : Shelf = record { flights = map (λ f. f.1.flight) (es ++ e ∷ []); numbers = map (λ f. f.0) (es ++ e ∷ []) } in
+    let t : Some s ≡ Some o = h ∙ shelf_end es e in
+    let same : s ≡ o = cc in (
+      ap (λ (x : Shelf). without_last x.flights) same ∙ without_end (λ f. f.1.flight) es e,
+      ap (λ (x : Shelf). without_last x.numbers) same ∙ without_end (λ f. f.0) es e,
+    )
 
 -- where something is left there is a shelf, and where nothing is left there is none
 pub left_shelf : (es : List Numbered) (flights numbers : List ℕ) → nat_eq (length flights) 0 ≡ false → flights ≡ map (λ f. f.1.flight) es → numbers ≡ map (λ f. f.0) es
-  → Some (record { flights = flights; numbers = numbers }) ≡ shelf_of es
+    → Some (record { flights = flights; numbers = numbers }) ≡ shelf_of es
 left_shelf [] flights numbers z f n = let e : nat_eq (length flights) 0 ≡ true = ap (λ (xs : List ℕ). nat_eq (length xs) 0) f in cc
 left_shelf (x ∷ xs) flights numbers z f n = λ i. Some (record { flights = f i; numbers = n i })
 
@@ -133,7 +134,7 @@ none_left (x ∷ xs) flights z f = absurd (nonzero (length (map (λ y. y.1.fligh
 
 -- the entry of the number is on the shelf: the others of the shelf stay
 pub on_removed : (k : Place) (t : ℕ → Bool) (es : List Numbered) (x : Numbered) → lookup_entry t es ≡ Some x → is_on k x ≡ true
-  → (on_shelf k (remove_entry t es) ≡ remove_entry t (on_shelf k es)) × (lookup_entry t (on_shelf k es) ≡ Some x)
+    → (on_shelf k (remove_entry t es) ≡ remove_entry t (on_shelf k es)) × (lookup_entry t (on_shelf k es) ≡ Some x)
 on_removed k t [] x h o = cc
 on_removed k t (f ∷ es) x h o = (elim (t f.0) as (λ b. t f.0 ≡ b → (on_shelf k (remove_entry t (f ∷ es)) ≡ remove_entry t (on_shelf k (f ∷ es))) × (lookup_entry t (on_shelf k (f ∷ es)) ≡ Some x)) [
   | true ↦ λ e.
@@ -166,16 +167,16 @@ pub record Removed {A : Type 0} (f : Numbered → A) (t : ℕ → Bool) (es : Li
   pub rest : remove (map f es) (position_or_len t (map (λ e. e.0) es)) ≡ map f (remove_entry t es)
 
 removed_step : {A : Type 0} (f : Numbered → A) (t : ℕ → Bool) (b : Bool) (e : Numbered) (es : List Numbered) (n : ℕ) → t e.0 ≡ b
-  → (b ≡ false → (n < length (map (λ x. x.0) es)) × (remove (map f es) n ≡ map f (remove_entry t es)))
-  → (cond (not b) (1 + n) 0 < length (map (λ x. x.0) (e ∷ es))) × (remove (map f (e ∷ es)) (cond (not b) (1 + n) 0) ≡ map f (cond b es (e ∷ remove_entry t es)))
+    → (b ≡ false → (n < length (map (λ x. x.0) es)) × (remove (map f es) n ≡ map f (remove_entry t es)))
+    → (cond (not b) (1 + n) 0 < length (map (λ x. x.0) (e ∷ es))) × (remove (map f (e ∷ es)) (cond (not b) (1 + n) 0) ≡ map f (cond b es (e ∷ remove_entry t es)))
 removed_step f t true e es n h r = (omega arith, refl)
 removed_step f t false e es n h r =
-  let s = r refl in
-  let k : 1 + n ≡ suc n = omega arith in
-  (omega (arith, s.0), ap (remove (map f (e ∷ es))) k ∙ ap (λ xs. f e ∷ xs) s.1)
+    let s = r refl in
+    let k : 1 + n ≡ suc n = omega arith in
+    (omega (arith, s.0), ap (remove (map f (e ∷ es))) k ∙ ap (λ xs. f e ∷ xs) s.1)
 
 removed_by : {A : Type 0} (f : Numbered → A) (t : ℕ → Bool) (es : List Numbered) (x : Numbered) → lookup_entry t es ≡ Some x
-  → (position_or_len t (map (λ e. e.0) es) < length (map (λ e. e.0) es)) × (remove (map f es) (position_or_len t (map (λ e. e.0) es)) ≡ map f (remove_entry t es))
+    → (position_or_len t (map (λ e. e.0) es) < length (map (λ e. e.0) es)) × (remove (map f es) (position_or_len t (map (λ e. e.0) es)) ≡ map f (remove_entry t es))
 removed_by f t [] x h = cc
 removed_by f t (e ∷ es) x h = removed_step f t (t e.0) e es (position_or_len t (map (λ y. y.0) es)) refl (λ b. removed_by f t es x (rw b at h))
 
@@ -189,9 +190,9 @@ mapped_long (e ∷ es) = ap suc (mapped_long es)
 pub shelf_some : (s : Shelf) (es : List Numbered) → Some s ≡ shelf_of es → (s.flights ≡ map (λ f. f.1.flight) es) × (s.numbers ≡ map (λ f. f.0) es)
 shelf_some s [] h = cc
 shelf_some s (e ∷ es) h =
-  let o : Shelf = record { flights = map (λ f. f.1.flight) (e ∷ es); numbers = map (λ f. f.0) (e ∷ es) } in
-  let same : s ≡ o = cc in
-  (ap (λ (x : Shelf). x.flights) same, ap (λ (x : Shelf). x.numbers) same)
+    let o : Shelf = record { flights = map (λ f. f.1.flight) (e ∷ es); numbers = map (λ f. f.0) (e ∷ es) } in
+    let same : s ≡ o = cc in
+    (ap (λ (x : Shelf). x.flights) same, ap (λ (x : Shelf). x.numbers) same)
 
 -- all of a source taken out
 
@@ -214,14 +215,14 @@ none_either true = refl
 none_either false = refl
 
 kept_lookup : (source : ℕ) (q : Place) (es : List (Place × Shelf))
-  → lookup (is_at (place_cmp q)) (filter (λ p. not (nat_eq p.0.0 source)) es) ≡ cond (nat_eq q.0 source) None (lookup (is_at (place_cmp q)) es)
+    → lookup (is_at (place_cmp q)) (filter (λ p. not (nat_eq p.0.0 source)) es) ≡ cond (nat_eq q.0 source) None (lookup (is_at (place_cmp q)) es)
 kept_lookup source q [] = none_either (nat_eq q.0 source)
 kept_lookup source q (p ∷ es) =
-  let t = is_at (place_cmp q) in
-  let rest = filter (λ (r : Place × Shelf). not (nat_eq r.0.0 source)) es in
-  chosen_lookup t (not (nat_eq p.0.0 source)) p rest
-  ∙ ap (λ y. cond (not (nat_eq p.0.0 source)) (cond (t p.0) (Some p.1) y) y) (kept_lookup source q es)
-  ∙ lookup_case (t p.0) (nat_eq q.0 source) (nat_eq p.0.0 source) (Some p.1) (lookup t es) (λ a. ap (λ (k : Place). nat_eq k.0 source) (at_exact q p.0 a))
+    let t = is_at (place_cmp q) in
+    let rest = filter (λ (r : Place × Shelf). not (nat_eq r.0.0 source)) es in
+    chosen_lookup t (not (nat_eq p.0.0 source)) p rest
+    ∙ ap (λ y. cond (not (nat_eq p.0.0 source)) (cond (t p.0) (Some p.1) y) y) (kept_lookup source q es)
+    ∙ lookup_case (t p.0) (nat_eq q.0 source) (nat_eq p.0.0 source) (Some p.1) (lookup t es) (λ a. ap (λ (k : Place). nat_eq k.0 source) (at_exact q p.0 a))
 
 chosen_shelf : (q : Place) (d : Bool) (x : Numbered) (es : List Numbered) → on_shelf q (cond d (x ∷ es) es) ≡ cond d (cond (is_on q x) (x ∷ on_shelf q es) (on_shelf q es)) (on_shelf q es)
 chosen_shelf q true x es = refl
@@ -244,53 +245,53 @@ empty_either false = refl
 kept_shelf : (source : ℕ) (q : Place) (es : List Numbered) → on_shelf q (filter (λ e. not (is_of source e.1)) es) ≡ cond (nat_eq q.0 source) [] (on_shelf q es)
 kept_shelf source q [] = empty_either (nat_eq q.0 source)
 kept_shelf source q (x ∷ es) =
-  chosen_shelf q (not (is_of source x.1)) x (filter (λ (r : Numbered). not (is_of source r.1)) es)
-  ∙ ap (λ ys. cond (not (is_of source x.1)) (cond (is_on q x) (x ∷ ys) ys) ys) (kept_shelf source q es)
-  ∙ shelf_case (is_on q x) (nat_eq q.0 source) (is_of source x.1) x (on_shelf q es)
-      (λ a. ap (λ n. nat_eq n source) (sym (exact_numbers x.1.key.source q.0 (and_left (nat_eq x.1.key.source q.0) (nat_eq x.1.stamp q.1) a))))
+    chosen_shelf q (not (is_of source x.1)) x (filter (λ (r : Numbered). not (is_of source r.1)) es)
+    ∙ ap (λ ys. cond (not (is_of source x.1)) (cond (is_on q x) (x ∷ ys) ys) ys) (kept_shelf source q es)
+    ∙ shelf_case (is_on q x) (nat_eq q.0 source) (is_of source x.1) x (on_shelf q es)
+    (λ a. ap (λ n. nat_eq n source) (sym (exact_numbers x.1.key.source q.0 (and_left (nat_eq x.1.key.source q.0) (nat_eq x.1.stamp q.1) a))))
 
 cut_shelf : (b : Bool) (es : List Numbered) → cond b None (shelf_of es) ≡ shelf_of (cond b [] es)
 cut_shelf true es = refl
 cut_shelf false es = refl
 
 pub index_without : (old new : BTreeMap Place Shelf) (source : ℕ) (es : List Numbered) → IsIndex old es → new.entries ≡ filter (λ p. not (nat_eq p.0.0 source)) old.entries
-  → IsIndex new (filter (λ e. not (is_of source e.1)) es)
+    → IsIndex new (filter (λ e. not (is_of source e.1)) es)
 index_without old new source es i h = λ q.
-  ap (lookup (is_at (place_cmp q))) h
-  ∙ kept_lookup source q old.entries
-  ∙ ap (cond (nat_eq q.0 source) None) (i q)
-  ∙ cut_shelf (nat_eq q.0 source) (on_shelf q es)
-  ∙ ap shelf_of (sym (kept_shelf source q es))
+    ap (lookup (is_at (place_cmp q))) h
+    ∙ kept_lookup source q old.entries
+    ∙ ap (cond (nat_eq q.0 source) None) (i q)
+    ∙ cut_shelf (nat_eq q.0 source) (on_shelf q es)
+    ∙ ap shelf_of (sym (kept_shelf source q es))
 
 -- the whole of each change
 
 pub entered_some : (old new : BTreeMap Place Shelf) (k : Place) (s w : Shelf) (n flight : ℕ) (es : List Numbered) (e : EntryOf) → k ≡ place_of e → flight ≡ e.flight → IsIndex old es
-  → Some s ≡ get place_cmp old k → w ≡ record { flights = flight ∷ s.flights; numbers = n ∷ s.numbers } → Changed old new k (Some w) → IsIndex new ((n, e) ∷ es)
+    → Some s ≡ get place_cmp old k → w ≡ record { flights = flight ∷ s.flights; numbers = n ∷ s.numbers } → Changed old new k (Some w) → IsIndex new ((n, e) ∷ es)
 entered_some old new k s w n flight es e p f i g h u =
-  index_with old new k (Some w) es ((n, e) ∷ es) i u
+    index_with old new k (Some w) es ((n, e) ∷ es) i u
     (ap Some h ∙ cons_shelf s (on_shelf k es) n flight e (g ∙ i k) f ∙ ap shelf_of (sym (on_front k (n, e) es p)))
     (λ q a. off_front k q (n, e) es p a)
 
 pub entered_none : (old new : BTreeMap Place Shelf) (k : Place) (w : Shelf) (n flight : ℕ) (es : List Numbered) (e : EntryOf) → k ≡ place_of e → flight ≡ e.flight → IsIndex old es
-  → None ≡ get place_cmp old k → w ≡ record { flights = flight ∷ []; numbers = n ∷ [] } → Changed old new k (Some w) → IsIndex new ((n, e) ∷ es)
+    → None ≡ get place_cmp old k → w ≡ record { flights = flight ∷ []; numbers = n ∷ [] } → Changed old new k (Some w) → IsIndex new ((n, e) ∷ es)
 entered_none old new k w n flight es e p f i g h u =
-  index_with old new k (Some w) es ((n, e) ∷ es) i u
+    index_with old new k (Some w) es ((n, e) ∷ es) i u
     (ap Some h ∙ one_shelf (on_shelf k es) n flight e (g ∙ i k) f ∙ ap shelf_of (sym (on_front k (n, e) es p)))
     (λ q a. off_front k q (n, e) es p a)
 
 pub left_some : (old new : BTreeMap Place Shelf) (k : Place) (s w : Shelf) (es : List Numbered) (e : Numbered) → k ≡ place_of e.1 → IsIndex old (es ++ e ∷ []) → Some s ≡ get place_cmp old k
-  → w ≡ record { flights = without_last s.flights; numbers = without_last s.numbers } → nat_eq (length (without_last s.flights)) 0 ≡ false → Changed old new k (Some w) → IsIndex new es
+    → w ≡ record { flights = without_last s.flights; numbers = without_last s.numbers } → nat_eq (length (without_last s.flights)) 0 ≡ false → Changed old new k (Some w) → IsIndex new es
 left_some old new k s w es e p i g h z u =
-  let last = last_shelf s (on_shelf k es) e (g ∙ i k ∙ ap shelf_of (on_last k e es p)) in
-  index_with old new k (Some w) (es ++ e ∷ []) es i u
+    let last = last_shelf s (on_shelf k es) e (g ∙ i k ∙ ap shelf_of (on_last k e es p)) in
+    index_with old new k (Some w) (es ++ e ∷ []) es i u
     (ap Some h ∙ left_shelf (on_shelf k es) (without_last s.flights) (without_last s.numbers) z last.0 last.1)
     (λ q a. off_last k q e es p a)
 
 pub left_none : (old new : BTreeMap Place Shelf) (k : Place) (s : Shelf) (es : List Numbered) (e : Numbered) → k ≡ place_of e.1 → IsIndex old (es ++ e ∷ []) → Some s ≡ get place_cmp old k
-  → nat_eq (length (without_last s.flights)) 0 ≡ true → Changed old new k None → IsIndex new es
+    → nat_eq (length (without_last s.flights)) 0 ≡ true → Changed old new k None → IsIndex new es
 left_none old new k s es e p i g z u =
-  let last = last_shelf s (on_shelf k es) e (g ∙ i k ∙ ap shelf_of (on_last k e es p)) in
-  index_with old new k None (es ++ e ∷ []) es i u
+    let last = last_shelf s (on_shelf k es) e (g ∙ i k ∙ ap shelf_of (on_last k e es p)) in
+    index_with old new k None (es ++ e ∷ []) es i u
     (none_left (on_shelf k es) (without_last s.flights) z last.0)
     (λ q a. off_last k q e es p a)
 
@@ -298,40 +299,40 @@ pub never_left : (old : BTreeMap Place Shelf) (k : Place) (es : List Numbered) (
 never_left old k es e p i g = let s : Shelf = record { flights = map (λ (f : Numbered). f.1.flight) (on_shelf k es ++ e ∷ []); numbers = map (λ (f : Numbered). f.0) (on_shelf k es ++ e ∷ []) } in let t : None ≡ Some s = g ∙ i k ∙ ap shelf_of (on_last k e es p) ∙ shelf_end (on_shelf k es) e in cc
 
 pub brought_some : (old new : BTreeMap Place Shelf) (k : Place) (s w : Shelf) (n flight : ℕ) (es : List Numbered) (d e : EntryOf) → k ≡ place_of d → k ≡ place_of e → flight ≡ e.flight
-  → lookup_entry (eqb n) es ≡ Some (n, d) → IsIndex old es → Some s ≡ get place_cmp old k
-  → (position_or_len (eqb n) s.numbers < length s.numbers → length s.flights ≡ length s.numbers
-      → w ≡ record { flights = flight ∷ remove s.flights (position_or_len (eqb n) s.numbers); numbers = n ∷ remove s.numbers (position_or_len (eqb n) s.numbers) })
-  → Changed old new k (Some w) → IsIndex new ((n, e) ∷ remove_entry (eqb n) es)
+    → lookup_entry (eqb n) es ≡ Some (n, d) → IsIndex old es → Some s ≡ get place_cmp old k
+    → (position_or_len (eqb n) s.numbers < length s.numbers → length s.flights ≡ length s.numbers
+    → w ≡ record { flights = flight ∷ remove s.flights (position_or_len (eqb n) s.numbers); numbers = n ∷ remove s.numbers (position_or_len (eqb n) s.numbers) })
+    → Changed old new k (Some w) → IsIndex new ((n, e) ∷ remove_entry (eqb n) es)
 brought_some old new k s w n flight es d e p q f l i g h u =
-  let x : Numbered = (n, d) in
-  let es' = on_shelf k es in
-  let on = on_removed k (eqb n) es x l (on_own k x p) in
-  let parts = shelf_some s es' (g ∙ i k) in
-  let fl = removed_map (λ (y : Numbered). y.1.flight) (eqb n) es' x on.1 in
-  let nu = removed_map (λ (y : Numbered). y.0) (eqb n) es' x on.1 in
-  let within : position_or_len (eqb n) s.numbers < length s.numbers = rw parts.1 nu.within in
-  let same : length s.flights ≡ length s.numbers = ap length parts.0 ∙ mapped_long es' ∙ ap length (sym parts.1) in
-  index_with old new k (Some w) es ((n, e) ∷ remove_entry (eqb n) es) i u
+    let x : Numbered = (n, d) in
+    let es' = on_shelf k es in
+    let on = on_removed k (eqb n) es x l (on_own k x p) in
+    let parts = shelf_some s es' (g ∙ i k) in
+    let fl = removed_map (λ (y : Numbered). y.1.flight) (eqb n) es' x on.1 in
+    let nu = removed_map (λ (y : Numbered). y.0) (eqb n) es' x on.1 in
+    let within : position_or_len (eqb n) s.numbers < length s.numbers = rw parts.1 nu.within in
+    let same : length s.flights ≡ length s.numbers = ap length parts.0 ∙ mapped_long es' ∙ ap length (sym parts.1) in
+    index_with old new k (Some w) es ((n, e) ∷ remove_entry (eqb n) es) i u
     (ap Some (h within same)
-      ∙ (λ j. Some (record { flights = f j ∷ remove (parts.0 j) (position_or_len (eqb n) (parts.1 j)); numbers = n ∷ remove (parts.1 j) (position_or_len (eqb n) (parts.1 j)) }))
-      ∙ (λ j. Some (record { flights = e.flight ∷ fl.rest j; numbers = n ∷ nu.rest j }))
-      ∙ ap (λ ys. shelf_of ((n, e) ∷ ys)) (sym on.0)
-      ∙ ap shelf_of (sym (on_front k (n, e) (remove_entry (eqb n) es) q)))
+    ∙ (λ j. Some (record { flights = f j ∷ remove (parts.0 j) (position_or_len (eqb n) (parts.1 j)); numbers = n ∷ remove (parts.1 j) (position_or_len (eqb n) (parts.1 j)) }))
+    ∙ (λ j. Some (record { flights = e.flight ∷ fl.rest j; numbers = n ∷ nu.rest j }))
+    ∙ ap (λ ys. shelf_of ((n, e) ∷ ys)) (sym on.0)
+    ∙ ap shelf_of (sym (on_front k (n, e) (remove_entry (eqb n) es) q)))
     (λ r a. off_front k r (n, e) (remove_entry (eqb n) es) q a ∙ off_removed r (eqb n) es x l (off_other k r x p a))
 
 pub entered_by : (b : Bool) (old new : BTreeMap Place Shelf) (k : Place) (s w : Shelf) (n flight : ℕ) (es : List Numbered) (e : EntryOf) → k ≡ place_of e → flight ≡ e.flight → IsIndex old es
-  → Some s ≡ get place_cmp old k → MatchBool b (w ≡ record { flights = flight ∷ s.flights; numbers = n ∷ s.numbers }) (w ≡ s) → Changed old new k (Some w)
-  → MatchBool b (IsIndex new ((n, e) ∷ es)) (IsIndex new es)
+    → Some s ≡ get place_cmp old k → MatchBool b (w ≡ record { flights = flight ∷ s.flights; numbers = n ∷ s.numbers }) (w ≡ s) → Changed old new k (Some w)
+    → MatchBool b (IsIndex new ((n, e) ∷ es)) (IsIndex new es)
 entered_by true old new k s w n flight es e p f i g h u = entered_some old new k s w n flight es e p f i g h u
 entered_by false old new k s w n flight es e p f i g h u = index_with old new k (Some w) es es i u (ap Some h ∙ g ∙ i k) (λ q a. refl)
 
 pub never_brought : (old : BTreeMap Place Shelf) (k : Place) (n : ℕ) (es : List Numbered) (d : EntryOf) → k ≡ place_of d → lookup_entry (eqb n) es ≡ Some (n, d) → IsIndex old es → None ≡ get place_cmp old k → ⊥
 never_brought old k n es d p l i g =
-  let x : Numbered = (n, d) in
-  let on = on_removed k (eqb n) es x l (on_own k x p) in
-  let empty = no_shelf (on_shelf k es) (g ∙ i k) in
-  let t : None ≡ Some x = ap (lookup_entry (eqb n)) (sym empty) ∙ on.1 in
-  cc
+    let x : Numbered = (n, d) in
+    let on = on_removed k (eqb n) es x l (on_own k x p) in
+    let empty = no_shelf (on_shelf k es) (g ∙ i k) in
+    let t : None ≡ Some x = ap (lookup_entry (eqb n)) (sym empty) ∙ on.1 in
+    cc
 
 -- equal entries have an equal index
 pub index_same : (old new : BTreeMap Place Shelf) (es : List Numbered) → IsIndex old es → new.entries ≡ old.entries → IsIndex new es
@@ -342,6 +343,6 @@ twice true w x y = refl
 twice false w x y = refl
 
 pub left_removed : (old mid new : BTreeMap Place Shelf) (k : Place) (s w : Shelf) (es : List Numbered) (e : Numbered) → k ≡ place_of e.1 → IsIndex old (es ++ e ∷ []) → Some s ≡ get place_cmp old k
-  → nat_eq (length (without_last s.flights)) 0 ≡ true → Changed old mid k (Some w) → Changed mid new k None → IsIndex new es
+    → nat_eq (length (without_last s.flights)) 0 ≡ true → Changed old mid k (Some w) → Changed mid new k None → IsIndex new es
 left_removed old mid new k s w es e p i g z u v =
-  left_none old new k s es e p i g z (λ q. v q ∙ ap (cond (is_at (place_cmp k) q) None) (u q) ∙ twice (is_at (place_cmp k) q) (Some w) None (get place_cmp old q))
+    left_none old new k s es e p i g z (λ q. v q ∙ ap (cond (is_at (place_cmp k) q) None) (u q) ∙ twice (is_at (place_cmp k) q) (Some w) None (get place_cmp old q))

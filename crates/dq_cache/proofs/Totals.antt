@@ -25,9 +25,9 @@ module _ {T : Type 0} (entry : T → EntryOf) where
   pub total_small : (es : List (ℕ × T)) → are_small entry es ≡ true → total_of entry es ≤ most_cells * length es
   total_small [] s = omega arith
   total_small (e ∷ es) s =
-    let first = is_small (entry e.1).weight (and_left (nat_le (entry e.1).weight most_cells) (are_small entry es) s) in
-    let rest = total_small es (and_right (nat_le (entry e.1).weight most_cells) (are_small entry es) s) in
-    omega (arith, total_cons e es, first, rest)
+      let first = is_small (entry e.1).weight (and_left (nat_le (entry e.1).weight most_cells) (are_small entry es) s) in
+      let rest = total_small es (and_right (nat_le (entry e.1).weight most_cells) (are_small entry es) s) in
+      omega (arith, total_cons e es, first, rest)
 
   pub small_cons : (e : ℕ × T) (es : List (ℕ × T)) → (entry e.1).weight ≤ most_cells → are_small entry es ≡ true → are_small entry (e ∷ es) ≡ true
   small_cons e es l s = and_both (nat_le (entry e.1).weight most_cells) (are_small entry es) (small_is (entry e.1).weight l) s
@@ -44,7 +44,7 @@ module _ {T : Type 0} (entry : T → EntryOf) where
   small_taken zero es s = refl
   small_taken (suc n) [] s = refl
   small_taken (suc n) (e ∷ es) s =
-    and_both (nat_le (entry e.1).weight most_cells) (are_small entry (take n es)) (and_left (nat_le (entry e.1).weight most_cells) (are_small entry es) s)
+      and_both (nat_le (entry e.1).weight most_cells) (are_small entry (take n es)) (and_left (nat_le (entry e.1).weight most_cells) (are_small entry es) s)
       (small_taken n es (and_right (nat_le (entry e.1).weight most_cells) (are_small entry es) s))
 
   -- the entry of a number, and the others
@@ -65,9 +65,9 @@ module _ {T : Type 0} (entry : T → EntryOf) where
   total_last [] e h = cc
   total_last (f ∷ []) e h = let same : f ≡ e = cc in total_cons f [] ∙ ap (λ (g : ℕ × T). (entry g.1).weight + 0) same
   total_last (f ∷ g ∷ es) e h =
-    let n : length (f ∷ g ∷ es) - 1 ≡ suc (length es) = omega arith in
-    let m : length (g ∷ es) - 1 ≡ length es = omega arith in
-    let k : suc (length (g ∷ es) - 1) ≡ suc (length es) = omega arith in
-    let on = total_last (g ∷ es) e (ap (slice_get (g ∷ es)) m ∙ ap (λ i. slice_get (f ∷ g ∷ es) i) (sym n) ∙ h) in
-    let t : without_last (f ∷ g ∷ es) ≡ f ∷ without_last (g ∷ es) = ap (λ i. take i (f ∷ g ∷ es)) (n ∙ sym k) in
-    omega (arith, total_cons f (g ∷ es), on, total_cons f (without_last (g ∷ es)), ap (total_of entry) t)
+      let n : length (f ∷ g ∷ es) - 1 ≡ suc (length es) = omega arith in
+      let m : length (g ∷ es) - 1 ≡ length es = omega arith in
+      let k : suc (length (g ∷ es) - 1) ≡ suc (length es) = omega arith in
+      let on = total_last (g ∷ es) e (ap (slice_get (g ∷ es)) m ∙ ap (λ i. slice_get (f ∷ g ∷ es) i) (sym n) ∙ h) in
+      let t : without_last (f ∷ g ∷ es) ≡ f ∷ without_last (g ∷ es) = ap (λ i. take i (f ∷ g ∷ es)) (n ∙ sym k) in
+      omega (arith, total_cons f (g ∷ es), on, total_cons f (without_last (g ∷ es)), ap (total_of entry) t)

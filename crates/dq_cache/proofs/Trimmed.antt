@@ -28,8 +28,8 @@ module _ {X : Type 0} (w : X → ℕ) (b : Bound) where
   pub trimmed_over : (xs : List X) → is_over b (map w xs) ≡ true → trimmed w b xs ≡ trimmed w b (without_last xs)
   trimmed_over [] h = let n = nothing_over b in cc
   trimmed_over (x ∷ xs) h =
-    ap (λ o. if o then trimmed_by w b (length xs) (without_last (x ∷ xs)) else (x ∷ xs)) h
-    ∙ ap (λ n. trimmed_by w b n (without_last (x ∷ xs))) (sym (short_last x xs))
+      ap (λ o. if o then trimmed_by w b (length xs) (without_last (x ∷ xs)) else (x ∷ xs)) h
+      ∙ ap (λ n. trimmed_by w b n (without_last (x ∷ xs))) (sym (short_last x xs))
 
   pub trimmed_within : (xs : List X) → is_over b (map w xs) ≡ false → trimmed w b xs ≡ xs
   trimmed_within [] h = refl

@@ -279,7 +279,12 @@ impl Clever {
         ensures answer { Answers (refusal (is_some (arc_value key).top) (is_large self.old.bound (cells_of (arc_value key) (arc_value table))) (not (nat_eq stamp now))) result }
         ensures list { Leaves result self.old.entries
             (trimmed (λ e. e.weight) self.old.bound (put_front (is_same stamp (arc_value key)) (record {
-                flight = flight; stamp = stamp; key = arc_value key; weight = weight_of (cells_of (arc_value key) (arc_value table)); table = arc_value table }) self.old.entries))
+              flight = flight;
+              stamp = stamp;
+              key = arc_value key;
+              weight = weight_of (cells_of (arc_value key) (arc_value table));
+              table = arc_value table;
+            }) self.old.entries))
             self.new.entries }
         ensures there { IsSome (find (is_same stamp (arc_value key)) self.old.entries) → result ≡ Kept.Memory → ⊥ }
         ensures bound { self.new.bound ≡ self.old.bound }

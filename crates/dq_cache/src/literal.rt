@@ -125,8 +125,9 @@ impl Literal {
         ensures answer { Answers (refusal false (is_large self.old.bound (cells_of (arc_value key) (arc_value table))) (not (nat_eq stamp now))) result }
         ensures list { Leaves result self.old.entries
             (trimmed (λ e. e.entry.weight) self.old.bound (put_front (has_body stamp body) (record {
-                entry = record { flight = flight; stamp = stamp; key = arc_value key; weight = weight_of (cells_of (arc_value key) (arc_value table)); table = arc_value table };
-                body = body }) self.old.entries))
+              entry = record { flight = flight; stamp = stamp; key = arc_value key; weight = weight_of (cells_of (arc_value key) (arc_value table)); table = arc_value table };
+              body = body;
+            }) self.old.entries))
             self.new.entries }
         ensures there { IsSome (find (has_body stamp body) self.old.entries) → result ≡ Kept.Memory → ⊥ }
         ensures bound { self.new.bound ≡ self.old.bound }

@@ -71,8 +71,9 @@ impl Shelf {
     pub(crate) fn bring(&mut self, number: u64, flight: u64)
         ensures { position_or_len (nat_eq number) self.old.numbers < length self.old.numbers → length self.old.flights ≡ length self.old.numbers
             → self.new ≡ record {
-                flights = flight ∷ remove self.old.flights (position_or_len (nat_eq number) self.old.numbers);
-                numbers = number ∷ remove self.old.numbers (position_or_len (nat_eq number) self.old.numbers) } }
+              flights = flight ∷ remove self.old.flights (position_or_len (nat_eq number) self.old.numbers);
+              numbers = number ∷ remove self.old.numbers (position_or_len (nat_eq number) self.old.numbers);
+            } }
     {
         let place = place_of(self.numbers.as_slice(), number);
         if place < self.numbers.len() && place < self.flights.len() {

@@ -50,12 +50,7 @@ pub(crate) fn add<T: Held>(
 }
 
 /// Puts an entry at the front, in place of the one of that number.
-pub(crate) fn replace<T: Held>(
-    cache: &mut Numbered<T>,
-    total: &mut u128,
-    number: u64,
-    held: T,
-)
+pub(crate) fn replace<T: Held>(cache: &mut Numbered<T>, total: &mut u128, number: u64, held: T)
     requires stack { IsStack T.entry cache.old total.old }
     requires there { IsSome (lookup (nat_eq number) cache.old.entries) }
     requires small { (T.entry held).weight ≤ most_cells }

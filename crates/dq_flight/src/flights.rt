@@ -181,12 +181,26 @@ impl Flights {
 
 #[cfg(test)]
 impl Flights {
-    /// Whether a flight may be started under that number.
-    pub(crate) fn may_start(&self, number: u64) -> bool
-        ensures { IsTrue result → (list_all (λ f. nat_lt f.number number) self.now.flights ≡ true) × (0 < self.now.spare) }
+    /// Whether the number is above all numbers.
+    fn is_above(&self, number: u64) -> bool
+        ensures { result ≡ list_all (λ f. nat_lt f.number number) self.now.flights }
     {
         self.flights.iter().all(|f| f.number() < number)
-            && self.flights.len() < self.flights.capacity()
+    }
+
+    /// Whether there is room for a flight more.
+    fn has_room(&self) -> bool
+        ensures { result ≡ nat_lt 0 self.now.spare }
+    {
+        self.flights.len() < self.flights.capacity()
+    }
+
+    /// Whether a flight may be started under that number.
+    pub(crate) fn may_start(&self, number: u64) -> bool
+        ensures above { IsTrue result → list_all (λ f. nat_lt f.number number) self.now.flights ≡ true }
+        ensures room { IsTrue result → 0 < self.now.spare }
+    {
+        self.is_above(number) && self.has_room()
     }
 
     /// Whether the flight of that number is running, and how many wait for it.

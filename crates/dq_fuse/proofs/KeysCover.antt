@@ -30,7 +30,7 @@ chosen_all : (b : Bool) (p : Placed → Bool) (q : Placed) (qs : List Placed) �
 chosen_all true p q qs e h = and_both (p q) (list_all p qs) e h
 chosen_all false p q qs e h = h
 
-filter_all : (p : Placed → Bool) (qs : List Placed) → list_all p (filter p qs) ≡ true
+pub filter_all : (p : Placed → Bool) (qs : List Placed) → list_all p (filter p qs) ≡ true
 filter_all p [] = refl
 filter_all p (q ∷ qs) = chosen_all (p q) p q (filter p qs) refl (filter_all p qs)
 

@@ -3,3 +3,4 @@ pub mod KindLaws
 pub mod Kinds
 pub mod Shown
 pub mod Covered
+pub mod Valid

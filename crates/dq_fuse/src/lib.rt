@@ -18,7 +18,7 @@ mod union;
 
 pub use fusing::fuse;
 pub use group::{Group, Groups};
-pub use laws::keys_cover_members;
+pub use laws::{keys_are_valid, keys_cover_members};
 
 #[cfg(test)]
 mod tests;

@@ -10,21 +10,21 @@ use Rattle.dq_cache.proofs.clever.number_of.Goals as goal
 
 pub returns-in_err-shelf : goal.returns-in_err-shelf
 returns-in_err-shelf c =
-  let q = c.args.q.now in
-  let es = c.args.cache.now.entries in
-  let place : Place = (q.source, c.args.stamp) in
-  let none : ◌≡◌ {A = Option Shelf} None (get place_cmp c.args.index.now place) =
+    let q = c.args.q.now in
+    let es = c.args.cache.now.entries in
+    let place : Place = (q.source, c.args.stamp) in
+    let none : ◌≡◌ {A = Option Shelf} None (get place_cmp c.args.index.now place) =
     c.in_err-shelf.ensures.value ∙ ap (λ (p : Query). let k : Place = (p.source, c.args.stamp) in get place_cmp c.args.index.now k) c.query.ensures.same in
-  c.from_residual.ensures ∙ looked_none (λ (key : Query). covers key q) q.source c.args.stamp (covers_source q) es (none ∙ c.requires place)
+    c.from_residual.ensures ∙ looked_none (λ (key : Query). covers key q) q.source c.args.stamp (covers_source q) es (none ∙ c.requires place)
 
 pub returns : goal.returns
 returns c =
-  let q = c.args.q.now in
-  let es = c.args.cache.now.entries in
-  let place : Place = (q.source, c.args.stamp) in
-  let shelf = c.in_ok-shelf.shelf.now in
-  let some : ◌≡◌ {A = Option Shelf} (Some shelf) (get place_cmp c.args.index.now place) =
+    let q = c.args.q.now in
+    let es = c.args.cache.now.entries in
+    let place : Place = (q.source, c.args.stamp) in
+    let shelf = c.in_ok-shelf.shelf.now in
+    let some : ◌≡◌ {A = Option Shelf} (Some shelf) (get place_cmp c.args.index.now place) =
     c.in_ok-shelf.ensures.value ∙ ap (λ (p : Query). let k : Place = (p.source, c.args.stamp) in get place_cmp c.args.index.now k) c.query.ensures.same in
-  c.first_covering.ensures
-  ∙ ap (find (passes_at (λ (key : Query). covers key q) es)) c.as_slice.ensures
-  ∙ looked_up (λ (key : Query). covers key q) q.source c.args.stamp (covers_source q) es shelf c.len-distinct.ensures.valid.0 (some ∙ c.requires place)
+    c.first_covering.ensures
+    ∙ ap (find (passes_at (λ (key : Query). covers key q) es)) c.as_slice.ensures
+    ∙ looked_up (λ (key : Query). covers key q) q.source c.args.stamp (covers_source q) es shelf c.len-distinct.ensures.valid.0 (some ∙ c.requires place)

@@ -10,7 +10,8 @@ invariant-loop-bound l = record {
   stack : IsStack (λ (e : EntryOf). e) l.cache l.total;
   below : (m : ℕ) → all_below m l.initial.cache.entries → all_below m l.cache.entries;
   indexed : IsIndex l.index l.cache.entries;
-  list : trimmed (λ (e : EntryOf). e.weight) l.bound (values_of l.cache.entries) ≡ trimmed (λ (e : EntryOf). e.weight) l.bound (values_of l.initial.cache.entries) }
+  list : trimmed (λ (e : EntryOf). e.weight) l.bound (values_of l.cache.entries) ≡ trimmed (λ (e : EntryOf). e.weight) l.bound (values_of l.initial.cache.entries);
+}
 
 abbrev pub decreases-loop-bound : goal.decreases-loop-bound
 decreases-loop-bound l = length l.cache.entries

@@ -4,6 +4,7 @@ use Rattle.dq_cache.proofs.shelf.bring_front.Goals as goal
 
 pub loop-i-preserved : goal.loop-i-preserved
 loop-i-preserved c =
-  let lt : c.loop-i.i < length c.args.list.now = omega arith in
-  (front_step c.args.item c.args.list.now c.loop-i.list c.loop-i.i c.replace-carried.new.dest lt c.loop-i.invariant.0 (c.replace-carried.ensures.after ∙ c.loop-i.invariant.1),
-   front_carried c.args.item c.args.list.now c.loop-i.list c.loop-i.i c.replace-carried.result lt c.loop-i.invariant.0 (c.item_mut.ensures.value ∙ ap Some (sym c.replace-carried.ensures.value)))
+    let lt : c.loop-i.i < length c.args.list.now = omega arith in (
+      front_step c.args.item c.args.list.now c.loop-i.list c.loop-i.i c.replace-carried.new.dest lt c.loop-i.invariant.0 (c.replace-carried.ensures.after ∙ c.loop-i.invariant.1),
+      front_carried c.args.item c.args.list.now c.loop-i.list c.loop-i.i c.replace-carried.result lt c.loop-i.invariant.0 (c.item_mut.ensures.value ∙ ap Some (sym c.replace-carried.ensures.value)),
+    )

@@ -8,4 +8,5 @@ abbrev pub invariant-loop : goal.invariant-loop
 invariant-loop g l = record {
   stack : IsStack g.T.Held.entry l.cache l.total;
   end : l.end ≡ length l.initial.cache.entries;
-  list : l.cache.entries ≡ rotated (λ e. not (is_of l.source (g.T.Held.entry e.1))) l.initial.cache.entries (l.end - l.counter) }
+  list : l.cache.entries ≡ rotated (λ e. not (is_of l.source (g.T.Held.entry e.1))) l.initial.cache.entries (l.end - l.counter);
+}
