@@ -56,7 +56,7 @@ fn derive_answer(alloc: Global, p: &Query, q: &Query, held: &Table) -> Result<Ta
 ///
 /// The condition is that p covers q. Over whatever rows the table is the answer of p, an Ok is the answer of q over these
 /// rows; where there are no such rows, nothing is claimed of it. An `Err` says that memory was wanting, also where a number
-/// goes beyond its type: counts of 64 bits, sums of 128 bits, and the bounds of a ratio. None does over at most 2^23 rows of
+/// goes beyond its type: values and counts 64 bits, sums 128 bits, a ratio its bounds. None does over at most 2^23 rows of
 /// 64-bit numbers (`sums_stay_within`). An `Err` leaves nothing behind.
 ///
 /// The cost: each held row a look-up among the groups of q, a test for each of q's predicates that halves its list, and a
