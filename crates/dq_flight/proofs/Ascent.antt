@@ -1,5 +1,5 @@
 -- Flights stay in the order of their numbers, and the first that fits is the lowest.
-use Rattle.std.proofs.Common.{◌≡◌, ℕ, ◌-◌, ◌+◌, Bool, true, false, not, ◌||◌, ◌&&◌, List, [], ◌∷◌, ◌++◌, refl, sym, ap, ◌∙◌, arith, Option, Some, None, find, nat_lt, nat_le, nat_eq, cond}
+use Rattle.std.proofs.Common.{◌≡◌, ℕ, ◌-◌, ◌+◌, Bool, true, false, not, ◌||◌, ◌&&◌, List, [], ◌∷◌, ◌++◌, refl, arith, Some, find, nat_lt, nat_le, nat_eq, cond}
 use Rattle.std.specs.Prelude.{if◌then◌else◌, IfSome}
 use Rattle.std.specs.Option.{option_map}
 use Rattle.std.specs.List.{list_all}

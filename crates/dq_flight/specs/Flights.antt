@@ -1,6 +1,5 @@
 -- Results that are under way, and those that some lane still waits for.
-use Rattle.std.specs.Prelude.{◌≡◌, ℕ, suc, ◌+◌, ◌-◌, ◌<◌, Bool, true, false, ◌&&◌, ◌||◌, not, nat_eq, nat_lt, nat_le, List, [], ◌∷◌, ◌++◌, Option, Some, None, find, IfSome, if◌then◌else◌}
-use Rattle.std.specs.Arc.{arc_value}
+use Rattle.std.specs.Prelude.{ℕ, ◌+◌, ◌-◌, Bool, true, false, ◌&&◌, nat_eq, nat_lt, List, [], ◌∷◌, ◌++◌, Option, find, if◌then◌else◌}
 use Rattle.std.specs.List.{list_all}
 use Rattle.dq_base.specs.Covering.{covers}
 use Rattle.dq_base.specs.declared.cell.Cell.{Cell}

@@ -1,8 +1,8 @@
 -- What a joiner is told.
-use Rattle.std.specs.Prelude.{◌≡◌, Option, Some, None, IfSome, List}
+use Rattle.std.specs.Prelude.{◌≡◌, IfSome}
 use Rattle.std.specs.Arc.{arc_value}
 use Rattle.dq_base.specs.declared.query.Query.{Query}
-use Rattle.dq_flight.specs.Flights.{Course, Running, Landed, Fallen, FlightOf}
+use Rattle.dq_flight.specs.Flights.{Course, Running, Landed, Fallen}
 use Rattle.dq_flight.specs.declared.look.Look.{Look}
 use Rattle.dq_flight.specs.declared.look.Look.TheVariants as look
 

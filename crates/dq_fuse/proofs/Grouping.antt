@@ -5,7 +5,7 @@ use Rattle.std.proofs.lemmas.List.{append-nil, length-map, map-append}
 use Rattle.std.specs.Prelude.{if◌then◌else◌, slice_set}
 use Rattle.std.specs.List.{list_any, filter, fold, enumerate_from, position_or_len}
 use Rattle.indexmap.specs.IndexSet.{insert_key}
-use Rattle.dq_base.specs.Batches.{Group, groups, groups_from, group_with, fuses, fused_key}
+use Rattle.dq_base.specs.Batches.{groups, groups_from, group_with, fuses}
 use Rattle.dq_fuse.specs.Gathered.{Gathered, alone, joined, gathered_with, gathered, group_of, kinds_of}
 use Rattle.dq_fuse.specs.Kinds.{KindOf, kind_of, kind_eq}
 use Rattle.dq_fuse.proofs.SameKind.{same_kind_back}

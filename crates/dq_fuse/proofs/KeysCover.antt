@@ -1,9 +1,9 @@
 -- The key of a group covers each of its members.
-use Rattle.std.proofs.Common.{◌≡◌, ℕ, zero, suc, ◌+◌, ◌≤◌, Bool, true, false, not, ◌&&◌, cond, List, [], ◌∷◌, ◌++◌, map, length, refl, sym, ap, ◌∙◌, arith, append_assoc, length-append, subst, Option, Some, None}
+use Rattle.std.proofs.Common.{◌≡◌, ℕ, zero, suc, ◌+◌, Bool, true, false, not, ◌&&◌, cond, List, [], ◌∷◌, ◌++◌, map, length, refl, ap, ◌∙◌, append_assoc, length-append, subst, Option, Some}
 use Rattle.std.specs.Prelude.{slice_get}
 use Rattle.std.specs.Option.{option_map_or}
 use Rattle.std.specs.List.{list_all, filter, enumerate_from}
-use Rattle.dq_base.specs.Batches.{Group, groups, groups_from, group_with, fuses, fused_key}
+use Rattle.dq_base.specs.Batches.{groups, groups_from, group_with, fuses}
 use Rattle.dq_base.specs.Covering.{covers}
 use Rattle.dq_base.proofs.SetLaws.{Each}
 use Rattle.dq_cover.proofs.CoverLaws.{covers_refl, and_both}

@@ -1,6 +1,6 @@
 -- The key of a group is valid where each of its members is.
-use Rattle.std.proofs.Common.{◌≡◌, ℕ, zero, suc, ◌+◌, ◌*◌, ◌<◌, ◌≤◌, Bool, true, false, not, ◌||◌, ◌&&◌, cond, eqb, nat_eq, List, [], ◌∷◌, ◌++◌, map, length, refl, sym, ap, ◌∙◌, arith, subst, Option, Some, None}
-use Rattle.std.specs.Prelude.{if◌then◌else◌, is_none, nat_le, nat_lt, slice_get, ◌==◌}
+use Rattle.std.proofs.Common.{◌≡◌, ℕ, zero, suc, ◌+◌, ◌<◌, ◌≤◌, Bool, true, false, not, ◌||◌, ◌&&◌, cond, eqb, nat_eq, List, [], ◌∷◌, ◌++◌, map, length, refl, sym, ap, ◌∙◌, arith, subst, Option, Some, None}
+use Rattle.std.specs.Prelude.{if◌then◌else◌, is_none, nat_le, nat_lt, slice_get}
 use Rattle.std.specs.List.{list_all, list_any, filter, fold, enumerate_from, IsDistinct}
 use Rattle.std.proofs.lemmas.Cmp.{nat_eq_equiv}
 use Rattle.std.proofs.lemmas.Bool.Decides.{nat_tests}
@@ -8,11 +8,11 @@ use Rattle.std.proofs.lemmas.List.{length-map, map-append}
 use Rattle.std.proofs.lemmas.List.Folds.{list_all-append}
 use Rattle.std.proofs.lemmas.Map.Keys.{IsDistinct-push}
 use Rattle.std.proofs.lemmas.Map.Steps.{length-le_from_distinct_below}
-use Rattle.dq_base.specs.Batches.{Group, groups, groups_from, group_with, fuses, with_measure, union}
+use Rattle.dq_base.specs.Batches.{groups, groups_from, group_with, fuses, with_measure, union}
 use Rattle.dq_base.specs.Covering.{measure_eq}
 use Rattle.dq_base.specs.Headings.{Heading}
 use Rattle.dq_base.specs.Limits.{most_columns}
-use Rattle.dq_base.specs.Validity.{invalid_by, reason_at, first_reason, column_missing, repeats, sorts_fit, shows_nothing, place_missing, too_long, list_too_long, measured, measure_fits, is_whole, test_fits, dim_fits}
+use Rattle.dq_base.specs.Validity.{reason_at, first_reason, column_missing, repeats, sorts_fit, shows_nothing, place_missing, too_long, measured, measure_fits}
 use Rattle.dq_cover.specs.Parts.{place_of}
 use Rattle.dq_cover.proofs.CoverLaws.{and_left, and_right, and_both, exact_numbers}
 use Rattle.dq_cover.proofs.Fused.{union_has}
@@ -194,7 +194,7 @@ measures_fit sorts q h =
 
 -- other measures, in no order
 with_valid : (sorts : List Sort) (q : Query) (ms : List Measure) → length sorts ≤ 64 → is_none (first_reason sorts q) ≡ true → list_all (fits_in sorts) ms ≡ true → IsSet ms
-  → (0 < length q.measures → 0 < length ms) → is_none (first_reason sorts (with_measures q ms)) ≡ true
+    → (0 < length q.measures → 0 < length ms) → is_none (first_reason sorts (with_measures q ms)) ≡ true
 with_valid sorts q ms l h f d more =
     let n = length sorts in
     let k = with_measures q ms in
@@ -234,7 +234,7 @@ some_shown [] (m ∷ ms) h l = cc
 some_shown (u ∷ us) ms h l = omega arith
 
 fused_valid : (schemas : List Heading) (q : Query) (ms : List Query) → list_all is_narrow schemas ≡ true → is_valid schemas q ≡ true → list_all (fuses q) ms ≡ true → list_all (is_valid schemas) ms ≡ true
-  → is_valid schemas (with_measures q (union (q ∷ ms))) ≡ true
+    → is_valid schemas (with_measures q (union (q ∷ ms))) ≡ true
 unfolding IsDistinct
 fused_valid schemas q ms narrow v f vs =
     let k = known (slice_get schemas q.source) q v in
@@ -267,7 +267,7 @@ filter_kept t p [] h = refl
 filter_kept t p (q ∷ qs) h = chosen_kept (t q) p q (filter t qs) (and_left (p q) (list_all p qs) h) (filter_kept t p qs (and_right (p q) (list_all p qs) h))
 
 group_valid : (schemas : List Heading) (q : Placed) (qs : List Placed) → list_all is_narrow schemas ≡ true → is_valid schemas q.1 ≡ true → list_all (λ p. fuses q.1 p.1) qs ≡ true → list_all (λ p. is_valid schemas p.1) qs ≡ true
-  → is_valid schemas (group_with qs q).key ≡ true
+    → is_valid schemas (group_with qs q).key ≡ true
 group_valid schemas q [] n v f vs = v
 group_valid schemas q (p ∷ ps) n v f vs =
     fused_valid schemas q.1 (map (λ r. r.1) (p ∷ ps)) n v (mapped_all (fuses q.1) (p ∷ ps) ∙ f) (mapped_all (is_valid schemas) (p ∷ ps) ∙ vs)

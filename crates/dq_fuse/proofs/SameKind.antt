@@ -9,17 +9,15 @@ use Rattle.std.specs.Ordering.{is_eq, eq_by_cmp, nat_cmp, ordering_then, orderin
 use Rattle.std.proofs.lemmas.Cmp.{nat_cmp_total, on_total, then_total, tied_itself}
 use Rattle.std.proofs.lemmas.Bool.Decides.{nat_tests}
 use Rattle.std.proofs.lemmas.List.Folds.{list_all-map}
-use Rattle.dq_base.specs.Covering.{lists_eq, predicate_eq, all_in_dims, same_dims}
+use Rattle.dq_base.specs.Covering.{lists_eq, predicate_eq, all_in_dims}
 use Rattle.dq_base.specs.Canonical.{predicate_cmp}
 use Rattle.dq_base.specs.Dims.{Dimension, dim_eq}
 use Rattle.dq_base.specs.Batches.{fuses}
 use Rattle.dq_base.specs.Sets.{set_of, has, all_in}
 use Rattle.dq_base.proofs.SetLaws.{Each, Ascends, ascends_set_of}
 use Rattle.dq_base.proofs.SetTests.{any_set_of}
-use Rattle.dq_base.proofs.Exact.{then_equal}
 use Rattle.dq_fuse.specs.Kinds.{Pair, pair_of, pair_eq, pair_cmp, kind_of, kind_eq}
 use Rattle.dq_fuse.specs.KindLaws.{kind_eq_equiv}
-use Rattle.dq_base.specs.declared.predicate.Predicate.{Predicate}
 use Rattle.dq_base.specs.declared.query.Query.{Query}
 
 same_by : (a b : Bool) → (a ≡ true → b ≡ true) → (b ≡ true → a ≡ true) → a ≡ b

@@ -1,5 +1,5 @@
 -- Queries gathered into groups one after another.
-use Rattle.std.specs.Prelude.{ℕ, Bool, List, [], ◌∷◌, ◌++◌, fold, map, if◌then◌else◌}
+use Rattle.std.specs.Prelude.{ℕ, List, [], ◌∷◌, ◌++◌, fold, map, if◌then◌else◌}
 use Rattle.dq_base.specs.Batches.{Group, fuses, fused_key}
 use Rattle.dq_fuse.specs.Kinds.{KindOf, kind_of}
 use Rattle.dq_base.specs.declared.query.Query.{Query}

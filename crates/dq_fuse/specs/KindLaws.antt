@@ -1,5 +1,5 @@
 -- Kinds that are equal are an equivalence, and are hashed alike.
-use Rattle.std.specs.Prelude.{◌≡◌, ℕ, Bool, true, false, refl, nat_eq}
+use Rattle.std.specs.Prelude.{◌≡◌, ℕ, true, refl, nat_eq}
 use Rattle.std.proofs.Common.{ap, arith}
 use Rattle.std.proofs.lemmas.Bool.Decides.{nat_tests}
 use Rattle.std.specs.declared.cmp.Ordering.{Ordering}
@@ -13,7 +13,6 @@ use Rattle.dq_base.specs.Canonical.{predicate_cmp}
 use Rattle.dq_base.specs.PredicateOrder.{predicate_cmp_total}
 use Rattle.dq_base.proofs.Exact.{exact_predicates}
 use Rattle.dq_fuse.specs.Kinds.{Pair, pair_eq, KindOf, kind_eq, predicate_input, pair_input, kind_input}
-use Rattle.dq_base.specs.declared.predicate.Predicate.{Predicate}
 
 pub pair_eq_equiv : IsEquivalence pair_eq
 pair_eq_equiv = and_equiv (on_equiv (λ (p : Pair). p.0) nat_eq_equiv) (on_equiv (λ (p : Pair). p.1) nat_eq_equiv)

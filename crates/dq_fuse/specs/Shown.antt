@@ -1,5 +1,5 @@
 -- Measures by their kind and column.
-use Rattle.std.specs.Prelude.{ℕ, Bool, List, ◌++◌}
+use Rattle.std.specs.Prelude.{Bool, ◌++◌}
 use Rattle.std.specs.Cmp.{IsEquivalence}
 use Rattle.std.specs.Hash as fed
 use Rattle.std.specs.Hash.{Alike, on_Alike, and-Alike}

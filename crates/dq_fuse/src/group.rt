@@ -45,12 +45,4 @@ impl Group {
     {
         &self.members
     }
-
-    /// The key and the members, in constant time.
-    pub fn into_parts(self) -> (Arc<Canon>, Numbers)
-        ensures key { arc_value result.0 ≡ self.key }
-        ensures members { result.1 ≡ self.members }
-    {
-        (self.key, self.members)
-    }
 }

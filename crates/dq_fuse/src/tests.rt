@@ -3,7 +3,7 @@ ghost use Rattle.dq_base.specs.Canonical.{canonical_predicate, predicate_cmp};
 ghost use Rattle.dq_base.specs.Orders.{value_cmp};
 ghost use Rattle.dq_base.specs.Sets.{set_of};
 
-use crate::{Groups, fuse, keys_cover_members};
+use crate::{Groups, fuse, keys_are_valid, keys_cover_members};
 use dq_base::{
     Canon, Canons, Dim, Dims, List, Measure, Memory, OrderKey, OrderKeys, Predicate, Predicates,
     Query, Test, Value, Values, put,
@@ -225,10 +225,12 @@ fn other_widths_and_other_lists_are_apart(rt: HostRuntime) -> Result<(), Fail> {
 #[test]
 fn parts_of_a_group(rt: HostRuntime) -> Result<(), Fail> {
     keys_cover_members();
+    keys_are_valid();
     let groups = fused(rt.alloc(), &[SUMS])?;
     assert_eq!(rt; groups.as_slice().len(), 1);
     for group in groups.as_slice() {
         assert!(rt; group.key().query().top.is_none());
+        assert_eq!(rt; group.members().as_slice(), [0].as_slice());
     }
     Ok(())
 }

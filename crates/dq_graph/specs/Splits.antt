@@ -1,5 +1,5 @@
 -- What a batch's roles say.
-use Rattle.std.specs.Prelude.{◌≡◌, ℕ, Bool, true, false, ◌&&◌, not, List, slice_get, Option, Some, None, IfSome}
+use Rattle.std.specs.Prelude.{◌≡◌, ℕ, Bool, true, false, List, slice_get, Option, Some, None, IfSome}
 use Rattle.std.specs.List.{enumerate_from}
 use Rattle.dq_base.specs.Batches.{is_local, roles}
 use Rattle.dq_base.specs.Covering.{covers}

@@ -1,4 +1,4 @@
-use Rattle.std.proofs.Common.{◌≡◌, ap, ◌∙◌, sym, None, Some, position, refl, arith, get_or, [], ◌∷◌}
+use Rattle.std.proofs.Common.{◌≡◌, ap, ◌∙◌, sym, Some, position, arith, [], ◌∷◌}
 use Rattle.dq_flight.specs.Flights.{FlightOf, is_numbered, ended}
 use Rattle.dq_flight.specs.States.{course_of}
 use Rattle.dq_flight.proofs.Made.{ended_out, ended_kept}

@@ -1,4 +1,4 @@
-use Rattle.std.proofs.Common.{◌≡◌, ap, ◌∙◌, sym, None, Some, position, refl, arith, get_or, [], ◌∷◌, ◌-◌, true, false}
+use Rattle.std.proofs.Common.{◌≡◌, ap, ◌∙◌, sym, [], ◌∷◌, ◌-◌, true, false}
 use Rattle.dq_flight.specs.Flights.{FlightOf, is_numbered, taken, runs}
 use Rattle.dq_flight.proofs.Made.{taken_running, taken_out, taken_kept}
 use Rattle.dq_flight.proofs.Replacing.{one_item, replaced_same, replaced_by, replaced_out}

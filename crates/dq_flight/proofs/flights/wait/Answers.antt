@@ -1,5 +1,4 @@
-use Rattle.std.proofs.Common.{◌≡◌, ap, ◌∙◌, sym, None, Some, position, refl, arith, ◌<◌, ◌^◌, ◌+◌, get_or, [], ◌∷◌}
-use Rattle.std.specs.Prelude.{IfSome}
+use Rattle.std.proofs.Common.{◌≡◌, ap, ◌∙◌, sym, Some, position, arith, ◌<◌, ◌^◌, ◌+◌, [], ◌∷◌}
 use Rattle.dq_flight.specs.Flights.{FlightOf, is_numbered, joined}
 use Rattle.dq_flight.proofs.Replacing.{found, one_item, replaced_none, replaced_by}
 use Rattle.dq_flight.proofs.flights.wait.Goals as goal

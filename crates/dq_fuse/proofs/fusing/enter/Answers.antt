@@ -1,6 +1,6 @@
-use Rattle.std.proofs.Common.{◌≡◌, ap, ◌∙◌}
+use Rattle.std.proofs.Common.{ap, ◌∙◌}
 use Rattle.std.specs.Arc.{arc_value}
-use Rattle.dq_fuse.specs.Gathered.{Gathered, joined, gathered_with}
+use Rattle.dq_fuse.specs.Gathered.{Gathered, joined}
 use Rattle.dq_fuse.proofs.Grouping.{entered_new, entered_old, entered_keys}
 use Rattle.dq_fuse.proofs.fusing.enter.Goals as goal
 

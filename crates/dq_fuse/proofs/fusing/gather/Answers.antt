@@ -1,4 +1,4 @@
-use Rattle.std.proofs.Common.{◌≡◌, ◌<◌, ap, ◌∙◌, arith, length, sym}
+use Rattle.std.proofs.Common.{◌<◌, ap, ◌∙◌, arith, length, sym}
 use Rattle.std.specs.Arc.{arc_value}
 use Rattle.dq_fuse.specs.Gathered.{gathered_with}
 use Rattle.dq_fuse.proofs.Grouping.{gathered_more}

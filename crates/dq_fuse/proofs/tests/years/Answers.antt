@@ -1,8 +1,6 @@
-use Rattle.std.proofs.Common.{◌≡◌, subst, sym, List}
-use Rattle.dq_base.proofs.SetLaws.{Ascends, ascends_with, set_of_fixed}
+use Rattle.dq_base.proofs.SetLaws.{ascends_with, set_of_fixed}
 use Rattle.dq_base.specs.Orders.{value_cmp}
 use Rattle.dq_base.specs.ValueOrder.{value_cmp_total}
-use Rattle.dq_base.specs.declared.value.Value.{Value}
 use Rattle.dq_fuse.proofs.tests.years.Goals as goal
 
 pub loop-year-preserved : goal.loop-year-preserved

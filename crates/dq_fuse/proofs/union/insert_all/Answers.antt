@@ -1,4 +1,4 @@
-use Rattle.std.proofs.Common.{◌≡◌, ◌<◌, arith, length, map, get_or, ap, ◌∙◌, sym}
+use Rattle.std.proofs.Common.{◌<◌, arith, length, map, get_or, ap, ◌∙◌, sym}
 use Rattle.std.proofs.lemmas.List.Sums.{fold_more}
 use Rattle.indexmap.specs.IndexSet.{keys}
 use Rattle.dq_base.specs.Batches.{with_measure}

@@ -1,4 +1,4 @@
-use Rattle.std.proofs.Common.{◌≡◌, ◌<◌, ◌≤◌, ◌+◌, ◌&&◌, not, true, false, drop, map, length, get_or, ap, ◌∙◌, sym, arith, Bool, Option, Some, ℕ}
+use Rattle.std.proofs.Common.{◌≡◌, ◌<◌, ◌≤◌, ◌+◌, ◌&&◌, not, true, false, drop, map, length, get_or, ap, ◌∙◌, sym, arith, Bool}
 use Rattle.std.specs.Arc.{arc_value}
 use Rattle.std.specs.List.{enumerate_from}
 use Rattle.dq_base.specs.Batches.{is_local, local_to}

@@ -1,4 +1,4 @@
-use Rattle.std.proofs.Common.{◌≡◌, ◌<◌, ◌≤◌, ◌+◌, [], ◌∷◌, ◌++◌, take, map, length, ap, ◌∙◌, sym, arith, Bool}
+use Rattle.std.proofs.Common.{◌≡◌, ◌<◌, ◌≤◌, [], ◌∷◌, ◌++◌, take, map, length, ap, ◌∙◌, sym, arith, Bool}
 use Rattle.std.specs.Arc.{arc_value}
 use Rattle.std.specs.List.{enumerate_from}
 use Rattle.std.proofs.lemmas.List.{map-append}

@@ -1,4 +1,4 @@
-use Rattle.std.proofs.Common.{◌≡◌, ◌<◌, ◌≤◌, ◌+◌, [], ◌∷◌, ◌++◌, take, map, length, ap, ◌∙◌, sym, arith}
+use Rattle.std.proofs.Common.{◌≡◌, ◌<◌, ◌≤◌, [], ◌∷◌, ◌++◌, take, map, length, ap, ◌∙◌, sym, arith}
 use Rattle.std.specs.Arc.{arc_value}
 use Rattle.std.specs.List.{enumerate_from}
 use Rattle.std.proofs.lemmas.List.{map-append}
@@ -6,7 +6,7 @@ use Rattle.dq_base.specs.Batches as batches
 use Rattle.dq_base.specs.Batches.{role_of}
 use Rattle.dq_base.specs.declared.query.Query.{Query}
 use Rattle.dq_base.specs.declared.canon.Role.{Role}
-use Rattle.dq_graph.proofs.Walking.{take_at, take_end, get_mapped}
+use Rattle.dq_graph.proofs.Walking.{take_at, take_end}
 use Rattle.dq_graph.proofs.splitting.split.Goals as goal
 
 pub loop-place-preserved : goal.loop-place-preserved

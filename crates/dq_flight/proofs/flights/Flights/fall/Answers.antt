@@ -1,7 +1,6 @@
 use Rattle.std.proofs.Common.{ap, ◌∙◌}
-use Rattle.std.specs.Arc.{arc_value}
-use Rattle.dq_flight.specs.Flights.{Fallen, Landed, ascends, ended, is_numbered, joined}
-use Rattle.dq_flight.proofs.Ascent.{ascends_replaced, ended_steady, joined_steady}
+use Rattle.dq_flight.specs.Flights.{Fallen, ascends, ended, is_numbered}
+use Rattle.dq_flight.proofs.Ascent.{ascends_replaced, ended_steady}
 use Rattle.dq_flight.proofs.flights.Flights.fall.Goals as goal
 
 pub invariant_of-self : goal.invariant_of-self

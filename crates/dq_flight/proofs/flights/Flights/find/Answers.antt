@@ -1,5 +1,4 @@
-use Rattle.std.proofs.Common.{◌≡◌, ap, ◌∙◌, true}
-use Rattle.dq_flight.specs.Flights.{fits, ascends}
+use Rattle.dq_flight.specs.Flights.{fits}
 use Rattle.dq_flight.proofs.Ascent.{lowest}
 use Rattle.dq_flight.proofs.flights.Flights.find.Goals as goal
 

@@ -1,7 +1,5 @@
-use Rattle.std.proofs.Common.{◌≡◌, ap, ◌∙◌, sym, true, List}
-use Rattle.std.specs.List.{list_all}
-use Rattle.std.specs.Prelude.{nat_lt}
-use Rattle.dq_flight.specs.Flights.{ascends, FlightOf}
+use Rattle.std.proofs.Common.{ap, ◌∙◌}
+use Rattle.dq_flight.specs.Flights.{ascends}
 use Rattle.dq_flight.proofs.Ascent.{ascends_end}
 use Rattle.dq_flight.proofs.flights.Flights.start.Goals as goal
 

@@ -1,4 +1,4 @@
-use Rattle.std.proofs.Common.{◌≡◌, ap, ◌∙◌, sym, None, Some, position, get_or}
+use Rattle.std.proofs.Common.{◌≡◌, ap, ◌∙◌, sym, None, Some, position}
 use Rattle.dq_flight.specs.Flights.{ascends, is_numbered, taken}
 use Rattle.dq_flight.proofs.Ascent.{ascends_replaced, taken_steady}
 use Rattle.dq_flight.proofs.Replacing.{found, none_found, replaced_none}
