@@ -1,0 +1,12 @@
+pub mod Counted
+pub mod Events
+pub mod Labels
+pub mod Lines
+pub mod Meetings
+pub mod OfFlights
+pub mod Outcomes
+pub mod Rows
+pub mod Steps
+pub mod Tables
+pub mod Takings
+pub mod Wholes

@@ -1,0 +1,5 @@
+use Rattle.dq_parse.proofs.Labels.{lead_reads}
+use Rattle.dq_parse.proofs.words.read_labelled_u32.Goals as goal
+
+pub returns : goal.returns
+returns c = lead_reads _ _ _ _ _ _ _ _ c.if-not-skip.ensures c.read_u32.ensures
