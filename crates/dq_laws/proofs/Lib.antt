@@ -1,0 +1,11 @@
+pub mod Each
+pub mod Goes
+pub mod Joiners
+pub mod Losing
+pub mod Numbered
+pub mod Ordered
+pub mod Owned
+pub mod Owners
+pub mod Published
+pub mod Stamped
+pub mod Stays

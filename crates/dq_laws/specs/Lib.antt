@@ -1,0 +1,5 @@
+pub mod Going
+pub mod Joins
+pub mod Numbers
+pub mod Owning
+pub mod Stamps

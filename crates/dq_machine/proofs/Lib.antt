@@ -1,0 +1,21 @@
+pub mod Admits
+pub mod Advanced
+pub mod Begins
+pub mod Bounds
+pub mod CellsLeft
+pub mod Few
+pub mod Fronts
+pub mod Joining
+pub mod Lefts
+pub mod Limits
+pub mod LostFew
+pub mod Misses
+pub mod Numbers
+pub mod Pairs
+pub mod Reached
+pub mod Refreshes
+pub mod Removing
+pub mod Replaced
+pub mod Stamped
+pub mod Standing
+mod Worked

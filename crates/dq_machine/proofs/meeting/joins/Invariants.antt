@@ -1,0 +1,10 @@
+use Rattle.std.proofs.Common.{◌≡◌, ◌++◌, map, drop}
+use Rattle.std.specs.Arc.{arc_value}
+use Rattle.dq_machine.specs.Admitting.{joins_of}
+use Rattle.dq_machine.proofs.meeting.joins.Given as goal
+
+abbrev pub invariant-loop-place : goal.invariant-loop-place
+invariant-loop-place l = record {
+  left : joins_of l.versions l.found l.queries ≡ l.joins ++ joins_of l.versions (drop l.place l.found) (map arc_value (drop l.place l.q-items));
+  items : map arc_value l.q-items ≡ l.queries;
+}

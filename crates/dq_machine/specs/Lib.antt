@@ -1,0 +1,16 @@
+pub mod Admitting
+pub mod Landing
+pub mod Latest
+pub mod Leasing
+pub mod Losses
+pub mod Machine
+pub mod Order
+pub mod Owning
+pub mod Parts
+pub mod Preparing
+pub mod Publishing
+pub mod Refreshing
+pub mod Right
+pub mod State
+pub mod Taking
+pub mod Views
