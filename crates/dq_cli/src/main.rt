@@ -3,7 +3,7 @@
 
 use dq_base::{List, Text, Texts};
 use dq_outside::{DiskFolder, OutSink};
-use dq_top::{Fault, rehearse, tell};
+use dq_top::{Checked, Fault, Outcome, check, rehearse, tell};
 use std::env;
 use std::io::ErrorKind;
 use std::process::ExitCode;
@@ -37,6 +37,26 @@ fn tell_line(rt: &HostRuntime, fault: &Fault) {
     }
 }
 
+/// Whether the first word asks for a report to be judged.
+fn asks_check(words: &Texts) -> bool {
+    match words.get(0) {
+        Some(word) => word.bytes() == b"check".as_slice(),
+        None => false,
+    }
+}
+
+/// Does what the words ask for. Answers the status, and the fault that is to be told.
+fn serve(rt: &HostRuntime, words: &Texts) -> (u8, Option<Fault>) {
+    let mut folder = DiskFolder::new(rt);
+    let mut sink = OutSink::new(rt);
+    if asks_check(words) {
+        let Checked { status, told, .. } = check(rt.alloc(), words, &mut folder, &mut sink);
+        return (status, told);
+    }
+    let Outcome { status, told, .. } = rehearse(rt.alloc(), words, &mut folder, &mut sink);
+    (status, told)
+}
+
 fn main(rt: HostRuntime) -> ExitCode {
     let words = match words_of(&rt) {
         Ok(words) => words,
@@ -45,11 +65,9 @@ fn main(rt: HostRuntime) -> ExitCode {
             return ExitCode::from(fault.status());
         }
     };
-    let mut folder = DiskFolder::new(&rt);
-    let mut sink = OutSink::new(&rt);
-    let outcome = rehearse(rt.alloc(), &words, &mut folder, &mut sink);
-    if let Some(fault) = &outcome.told {
+    let (status, told) = serve(&rt, &words);
+    if let Some(fault) = &told {
         tell_line(&rt, fault);
     }
-    ExitCode::from(outcome.status)
+    ExitCode::from(status)
 }

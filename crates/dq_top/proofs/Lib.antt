@@ -1,9 +1,8 @@
-pub mod Beginnings
 pub mod Behind
 pub mod Blended
 pub mod Content
 pub mod Fine
+pub mod Inputs
 pub mod Reached
 pub mod Refused
 pub mod ScriptLimits
-pub mod Shows

@@ -1,6 +1,6 @@
+pub mod Checking
 pub mod Loading
 pub mod Outcomes
 pub mod Progress
-pub mod Showing
 pub mod Telling
 pub mod Words

@@ -169,6 +169,7 @@ abbrev pub LimitCause : ℕ → ℕ → Limit → ℕ → Type 0
 LimitCause before now limit.ScriptBytes value = RoseBy (value + 1) before now
 LimitCause before now limit.FileBytes value = RoseBy (value + 1) before now
 LimitCause before now limit.AllBytes value = RoseBy (value + 1) before now
+LimitCause before now limit.ReportBytes value = RoseBy (value + 1) before now
 LimitCause before now which value = ⊤
 
 abbrev pub TakenCause : ℕ → ℕ → Option Fault → Type 0
@@ -226,7 +227,13 @@ TellsRows name load.Memory told = told ≡ fault.Memory
 abbrev pub IsOfLoading : Fault → Type 0
 IsOfLoading fault.Usage = ⊥
 IsOfLoading fault.Write = ⊥
+IsOfLoading (fault.Unbuilt name) = ⊥
 IsOfLoading f = ⊤
+
+-- and that of a script, which may want faults where they are taken
+abbrev pub IsOfScript : Bool → Fault → Type 0
+IsOfScript faults (fault.Unbuilt name) = faults ≡ false
+IsOfScript faults f = IsOfLoading f
 
 -- what may be told once all is loaded
 abbrev pub IsOfPlay : Option Fault → Type 0

@@ -11,17 +11,17 @@
 //! ```
 #![tactic(auto)]
 
+mod checking;
 mod fault;
 mod loading;
 mod outcome;
 mod progress;
 mod refusals;
 mod rehearsing;
-mod showing;
-mod starts;
 mod telling;
 mod words;
 
+pub use checking::{Checked, check};
 pub use fault::Fault;
 pub use outcome::Outcome;
 pub use rehearsing::rehearse;

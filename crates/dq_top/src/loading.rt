@@ -7,8 +7,8 @@ ghost use Rattle.dq_base.specs.Scripts.{IsScript, heading_fits, lane_fits, sourc
 ghost use Rattle.dq_base.specs.Versions.{IsVersion, cells_of};
 ghost use Rattle.dq_extract.specs.Loads.{AreOf};
 ghost use Rattle.dq_script.specs.Scripts.{script_of};
-ghost use Rattle.dq_top.specs.Loading.{IsAmong, built_script, bytes_fault, files_of, files_read, loaded_of, names_read, publication_in, publications, script_in, versions_in};
-ghost use Rattle.dq_top.specs.Outcomes.{AnswersLoad, IsFault, IsOfLoading, ReadCause, TakenCause, TellsRows, TellsScript};
+ghost use Rattle.dq_top.specs.Loading.{IsAmong, built_script, bytes_fault, files_of, files_read, loaded_with, names_with, publication_in, publications, script_in, versions_in};
+ghost use Rattle.dq_top.specs.Outcomes.{AnswersLoad, IsFault, IsOfLoading, IsOfScript, ReadCause, TakenCause, TellsRows, TellsScript};
 ghost use Rattle.dq_top.specs.Progress.{AnswersProgress, IsProgress, IsWithin, TakenBy, behind_one};
 
 use crate::fault::Fault;
@@ -24,7 +24,7 @@ use dq_shield::shield;
 use std::alloc::Global;
 
 /// The fault of a file that couldn't be read.
-fn unread(alloc: Global, name: &Text) -> Fault
+pub fn unread(alloc: Global, name: &Text) -> Fault
     ensures { IsFault (Fault.Read name.now) result }
 {
     match Text::copy_of(alloc, name.bytes()) {
@@ -104,15 +104,16 @@ fn bytes_fault(left: u64) -> Fault
     }
 }
 
-/// The script that a file's bytes mean, where nothing is wanted to fail.
-fn built(alloc: Global, name: &Text, bytes: &[u8]) -> Result<Script, Fault>
-    ensures told { AnswersLoad (built_script name.now (script_of bytes.now)) (λ n. ⊥) result }
+/// The script that a file's bytes mean. Where faults aren't taken, nothing may be wanted to fail.
+fn built(alloc: Global, name: &Text, faults: bool, bytes: &[u8]) -> Result<Script, Fault>
+    ensures told { AnswersLoad (built_script faults name.now (script_of bytes.now)) (λ n. ⊥) result }
     ensures limit { IfErr result (λ f. (before now : ℕ) → TakenCause before now (Some f)) }
+    ensures kind { IfErr result (IsOfScript faults) }
     ensures fits { IfOk result IsScript }
 {
     match read(alloc, bytes) {
         Ok(script) => {
-            if wants_no_fault(&script) {
+            if faults || wants_no_fault(&script) {
                 Ok(script)
             } else {
                 Err(unbuilt(alloc, name))
@@ -123,13 +124,18 @@ fn built(alloc: Global, name: &Text, bytes: &[u8]) -> Result<Script, Fault>
 }
 
 /// Reads the script of that name.
-pub fn read_script<F: Folder>(alloc: Global, name: &Text, folder: &mut F) -> Result<Script, Fault>
+pub fn read_script<F: Folder>(
+    alloc: Global,
+    name: &Text,
+    faults: bool,
+    folder: &mut F,
+) -> Result<Script, Fault>
     ensures kept { F.files folder.new ≡ F.files folder.old }
-    ensures told { IfSome (F.files folder.old) (λ files. AnswersLoad (script_in name.now (files name.now)) (λ n. n ≡ name.now) result) }
+    ensures told { IfSome (F.files folder.old) (λ files. AnswersLoad (script_in faults name.now (files name.now)) (λ n. n ≡ name.now) result) }
     ensures later { F.faults folder.old ≤ F.faults folder.new }
     ensures cause { IfErr result (λ f. ReadCause (F.faults folder.old) (F.faults folder.new) (F.last_fault folder.new) (Some f)) }
-    ensures kind { IfErr result IsOfLoading }
-    ensures taken { F.taken folder.old ≤ F.taken folder.new }
+    ensures kind { IfErr result (IsOfScript faults) }
+    ensures grown { F.taken folder.old ≤ F.taken folder.new }
     ensures limit { IfErr result (λ f. TakenCause (F.taken folder.old) (F.taken folder.new) (Some f)) }
     ensures fits { IfOk result IsScript }
 {
@@ -139,7 +145,7 @@ pub fn read_script<F: Folder>(alloc: Global, name: &Text, folder: &mut F) -> Res
         Err(FolderFault::TooLong) => return Err(Fault::Limit(Limit::ScriptBytes, SCRIPT_BYTES)),
         Err(FolderFault::Memory) => return Err(Fault::Memory),
     };
-    built(alloc, name, bytes.bytes())
+    built(alloc, name, faults, bytes.bytes())
 }
 
 /// The schema of a source.
@@ -167,6 +173,7 @@ fn load_file<F: Folder>(
     requires within { IsWithin progress }
     ensures kept { F.files folder.new ≡ F.files folder.old }
     ensures told { IfSome (F.files folder.old) (λ files. AnswersLoad (behind_one files progress (record { heading = schema.now; file = name.now })) (λ n. n ≡ name.now) result) }
+    ensures grown { F.taken folder.old ≤ F.taken folder.new }
     ensures later { F.faults folder.old ≤ F.faults folder.new }
     ensures cause { IfErr result (λ f. ReadCause (F.faults folder.old) (F.faults folder.new) (F.last_fault folder.new) (Some f)) }
     ensures kind { IfErr result IsOfLoading }
@@ -206,6 +213,7 @@ fn load_step<F: Folder>(
     requires within { IsWithin progress }
     ensures kept { F.files folder.new ≡ F.files folder.old }
     ensures told { IfSome (F.files folder.old) (λ files. AnswersProgress files progress (publication_in schemas.now step.now) result) }
+    ensures grown { F.taken folder.old ≤ F.taken folder.new }
     ensures later { F.faults folder.old ≤ F.faults folder.new }
     ensures cause { IfErr result (λ f. ReadCause (F.faults folder.old) (F.faults folder.new) (F.last_fault folder.new) (Some f)) }
     ensures kind { IfErr result IsOfLoading }
@@ -234,6 +242,7 @@ fn load_lane<F: Folder>(
     requires within { IsWithin progress }
     ensures kept { F.files folder.new ≡ F.files folder.old }
     ensures told { IfSome (F.files folder.old) (λ files. AnswersProgress files progress (flat_map (publication_in schemas.now) steps.now) result) }
+    ensures grown { F.taken folder.old ≤ F.taken folder.new }
     ensures later { F.faults folder.old ≤ F.faults folder.new }
     ensures cause { IfErr result (λ f. ReadCause (F.faults folder.old) (F.faults folder.new) (F.last_fault folder.new) (Some f)) }
     ensures kind { IfErr result IsOfLoading }
@@ -261,6 +270,8 @@ fn load_lanes<F: Folder>(
     requires columns { list_all heading_fits schemas.now ≡ true }
     requires fits { list_all (lane_fits (length schemas.now)) lanes.now ≡ true }
     ensures told { IfSome (F.files folder.old) (λ files. AnswersProgress files (record { left = all_room; cells = cell_room; segments = [] }) (flat_map (λ steps. flat_map (publication_in schemas.now) steps) lanes.now) result) }
+    ensures kept { F.files folder.new ≡ F.files folder.old }
+    ensures grown { F.taken folder.old ≤ F.taken folder.new }
     ensures later { F.faults folder.old ≤ F.faults folder.new }
     ensures cause { IfErr result (λ f. ReadCause (F.faults folder.old) (F.faults folder.new) (F.last_fault folder.new) (Some f)) }
     ensures kind { IfErr result IsOfLoading }
@@ -286,6 +297,8 @@ fn load_segments<F: Folder>(
 ) -> Result<SegmentList, Fault>
     requires { IsScript script.now }
     ensures told { IfSome (F.files folder.old) (λ files. AnswersLoad (versions_in files all_room cell_room (publications script.now)) (λ n. IsAmong n (files_read files all_room cell_room (publications script.now))) result) }
+    ensures kept { F.files folder.new ≡ F.files folder.old }
+    ensures grown { F.taken folder.old ≤ F.taken folder.new }
     ensures later { F.faults folder.old ≤ F.faults folder.new }
     ensures cause { IfErr result (λ f. ReadCause (F.faults folder.old) (F.faults folder.new) (F.last_fault folder.new) (Some f)) }
     ensures kind { IfErr result IsOfLoading }
@@ -304,6 +317,8 @@ fn load_segments<F: Folder>(
 fn load_files<F: Folder>(alloc: Global, script: Script, folder: &mut F) -> Result<Loaded, Fault>
     requires { IsScript script }
     ensures told { IfSome (F.files folder.old) (λ files. AnswersLoad (files_of files script) (λ n. IsAmong n (files_read files all_room cell_room (publications script))) result) }
+    ensures kept { F.files folder.new ≡ F.files folder.old }
+    ensures grown { F.taken folder.old ≤ F.taken folder.new }
     ensures later { F.faults folder.old ≤ F.faults folder.new }
     ensures cause { IfErr result (λ f. ReadCause (F.faults folder.old) (F.faults folder.new) (F.last_fault folder.new) (Some f)) }
     ensures kind { IfErr result IsOfLoading }
@@ -319,15 +334,23 @@ fn load_files<F: Folder>(alloc: Global, script: Script, folder: &mut F) -> Resul
     }
 }
 
-/// Loads the script of that name and its files. Each zone then asks of what its lane's session leaves of its source.
-pub fn load_script<F: Folder>(alloc: Global, name: &Text, folder: &mut F) -> Result<Loaded, Fault>
-    ensures told { IfSome (F.files folder.old) (λ files. AnswersLoad (loaded_of files name.now) (λ n. IsAmong n (names_read files name.now)) result) }
+/// Loads the script of that name and its files. Each zone then asks of what its lane's session leaves of its source. Where faults
+/// aren't taken, a script that wants something to fail is refused.
+pub fn load_script<F: Folder>(
+    alloc: Global,
+    name: &Text,
+    faults: bool,
+    folder: &mut F,
+) -> Result<Loaded, Fault>
+    ensures kept { F.files folder.new ≡ F.files folder.old }
+    ensures told { IfSome (F.files folder.old) (λ files. AnswersLoad (loaded_with faults files name.now) (λ n. IsAmong n (names_with faults files name.now)) result) }
     ensures later { F.faults folder.old ≤ F.faults folder.new }
     ensures cause { IfErr result (λ f. ReadCause (F.faults folder.old) (F.faults folder.new) (F.last_fault folder.new) (Some f)) }
-    ensures kind { IfErr result IsOfLoading }
+    ensures kind { IfErr result (IsOfScript faults) }
+    ensures grown { F.taken folder.old ≤ F.taken folder.new }
     ensures limit { IfErr result (λ f. TakenCause (F.taken folder.old) (F.taken folder.new) (Some f)) }
 {
-    let script = match read_script(alloc, name, folder) {
+    let script = match read_script(alloc, name, faults, folder) {
         Ok(script) => script,
         Err(fault) => return Err(fault),
     };

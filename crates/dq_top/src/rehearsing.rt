@@ -13,13 +13,13 @@ use crate::fault::Fault;
 use crate::loading::load_script;
 use crate::outcome::{Outcome, refused, status, told_of};
 use crate::refusals;
-use crate::showing::show;
 use crate::words::find_script;
 use dq_base::{Memory, Texts};
 use dq_extract::Loaded;
 use dq_outside::{Folder, Sink};
 use dq_rehearse::{Whole, play_script};
 use dq_report::write;
+use dq_shown::show;
 use std::alloc::Global;
 use std::sync::Arc;
 
@@ -99,7 +99,7 @@ pub fn rehearse<F: Folder, S: Sink>(
     let Some(name) = find_script(words.as_slice()) else {
         return refused(alloc, Fault::Usage);
     };
-    match load_script(alloc, name, folder) {
+    match load_script(alloc, name, false, folder) {
         Ok(loaded) => play_loaded(alloc, loaded, sink),
         Err(fault) => refused(alloc, fault),
     }

@@ -7,13 +7,13 @@ use dq_top::{Fault, Outcome, rehearse, tell};
 use std::alloc::Global;
 use std::process::Abort;
 
-const SCRIPT: &str =
+pub(crate) const SCRIPT: &str =
     r#"{"form":1,"extracts":[{"name":"sales","columns":[["region","text"],["year","whole"],["amount","whole"]]}],"lanes":[[{"publish":"sales","how":"replace","file":"sales.csv"},{"batch":[{"source":"sales","by":["region"],"show":[["sum","amount"],["rows"]]}]}]]}"#;
 
 // The script's zones.
 const ZONES: &str = r#"{"source":"sales","by":["region"],"show":[["sum","amount"],["rows"]]}"#;
 
-const SALES: &str = "region,year,amount
+pub(crate) const SALES: &str = "region,year,amount
 East,2020,10
 East,2021,5
 West,2020,7
@@ -616,7 +616,7 @@ fn text(rt: &impl Abort, alloc: Global, bytes: &[u8]) -> Text {
     Text::copy_of(alloc, bytes).ok().expect(rt, "memory")
 }
 
-fn words(rt: &impl Abort, alloc: Global, given: &[&str]) -> Texts {
+pub(crate) fn words(rt: &impl Abort, alloc: Global, given: &[&str]) -> Texts {
     let mut words = List::new(alloc);
     for word in given {
         assert!(rt; words.push(text(rt, alloc, word.as_bytes())).is_ok());
@@ -628,7 +628,13 @@ fn numbers(rt: &impl Abort, alloc: Global, given: &[u64]) -> Numbers64 {
     Numbers64::from_vec(given.to_vec(alloc).ok().expect(rt, "memory"))
 }
 
-fn add(rt: &impl Abort, alloc: Global, files: &mut NamedFiles, name: &[u8], bytes: &[u8]) {
+pub(crate) fn add(
+    rt: &impl Abort,
+    alloc: Global,
+    files: &mut NamedFiles,
+    name: &[u8],
+    bytes: &[u8],
+) {
     let file = NamedFile {
         name: text(rt, alloc, name),
         bytes: text(rt, alloc, bytes),
@@ -637,7 +643,7 @@ fn add(rt: &impl Abort, alloc: Global, files: &mut NamedFiles, name: &[u8], byte
 }
 
 /// A script `row.json` and a file `sales.csv`.
-fn both(rt: &impl Abort, alloc: Global, script: &str, sales: &str) -> NamedFiles {
+pub(crate) fn both(rt: &impl Abort, alloc: Global, script: &str, sales: &str) -> NamedFiles {
     let mut files = NamedFiles::new(alloc);
     add(rt, alloc, &mut files, b"row.json", script.as_bytes());
     add(rt, alloc, &mut files, b"sales.csv", sales.as_bytes());

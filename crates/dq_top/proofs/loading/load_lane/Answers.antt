@@ -19,6 +19,7 @@ loop-step-preserved g c = (
       c.loop-step.step-index c.step-item.result c.step-item.result c.loop-step.so_far c.in-Ok.next (g.F.Folder.files c.loop-step.folder)
       c.loop-step-test.true c.step-item.is c.loop-step.invariant.0 c.loop-step.invariant.3 c.in-Ok.ensures.told c.in-Ok.ensures.progress,
   λ start from. c.in-Ok.ensures.taken start (c.loop-step.invariant.4 start from),
+  omega (arith, c.loop-step.invariant.5, c.load_step.ensures.grown),
 )
 
 pub returns-in-Err-clause-taken : goal.returns-in-Err-clause-taken

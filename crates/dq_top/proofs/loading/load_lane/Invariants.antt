@@ -12,3 +12,4 @@ invariant-loop-step g l =
     (g.F.Folder.files l.folder ≡ g.F.Folder.files l.fn.folder) × (g.F.Folder.faults l.fn.folder ≤ g.F.Folder.faults l.folder) × IsWithin l.so_far
     × Reached (publication_in l.schemas) source_in l.schemas (g.F.Folder.files l.fn.folder) l.fn.progress (take l.step-index l.steps) l.so_far
     × ((start : ℕ) → RoseBy (all_room - l.fn.progress.left) start (g.F.Folder.taken l.fn.folder) → RoseBy (all_room - l.so_far.left) start (g.F.Folder.taken l.folder))
+    × (g.F.Folder.taken l.fn.folder ≤ g.F.Folder.taken l.folder)

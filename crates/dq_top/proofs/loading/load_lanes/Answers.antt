@@ -23,6 +23,7 @@ loop-steps-preserved g c = (
       c.loop-steps.steps-index c.as_slice.result.now c.steps-item.result c.loop-steps.so_far c.in-Ok.next (g.F.Folder.files c.loop-steps.folder)
       c.loop-steps-test.true (c.as_slice.ensures ∙ c.steps-item.is) c.loop-steps.invariant.0 c.loop-steps.invariant.3 c.in-Ok.ensures.told c.in-Ok.ensures.progress,
   λ start from. c.in-Ok.ensures.taken start (c.loop-steps.invariant.4 start from),
+  omega (arith, c.loop-steps.invariant.5, c.load_lane.ensures.grown),
 )
 
 pub returns-clause-progress : goal.returns-clause-progress

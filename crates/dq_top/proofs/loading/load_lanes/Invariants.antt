@@ -14,3 +14,4 @@ invariant-loop-steps g l =
     (g.F.Folder.files l.folder ≡ g.F.Folder.files l.fn.folder) × (g.F.Folder.faults l.fn.folder ≤ g.F.Folder.faults l.folder) × IsWithin l.so_far
     × Reached (λ steps. flat_map (publication_in l.schemas) steps) (λ steps. flat_map source_in steps) l.schemas (g.F.Folder.files l.fn.folder) nothing (take l.steps-index l.lanes) l.so_far
     × ((start : ℕ) → start ≤ g.F.Folder.taken l.fn.folder → RoseBy (all_room - l.so_far.left) start (g.F.Folder.taken l.folder))
+    × (g.F.Folder.taken l.fn.folder ≤ g.F.Folder.taken l.folder)

@@ -1,0 +1,7 @@
+use Rattle.std.proofs.Common.{◌≡◌, ◌++◌, drop}
+use Rattle.std.specs.List.{flat_map}
+use Rattle.dq_check.specs.Losses as specified
+use Rattle.dq_check.proofs.losses.wanting_in.Given as goal
+
+abbrev pub invariant-loop-entry : goal.invariant-loop-entry
+invariant-loop-entry l = flat_map specified.wanting_in l.journal ≡ l.flights.items ++ flat_map specified.wanting_in (drop l.entry-index l.journal)

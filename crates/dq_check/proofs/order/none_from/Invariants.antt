@@ -1,0 +1,15 @@
+use Rattle.std.proofs.Common.{◌≡◌, ◌++◌, ◌≤◌, IfOk, OnOk, drop, length, nat_eq, ℕ, ◌+◌, ◌-◌, ◌*◌, ◌<◌}
+use Rattle.std.specs.List.{flat_map}
+use Rattle.std.specs.Option.{option_copied}
+use Rattle.std.specs.Cmp.Lexicographic.{pointwise}
+use Rattle.dq_base.specs.Scripts.{numbered, step_of}
+use Rattle.dq_journal.specs.Journals as journals
+use Rattle.dq_journal.specs.Right as named
+use Rattle.dq_journal.specs.Right.{done_from, entries_of, steps_named}
+use Rattle.dq_machine.specs.Order as specified
+use Rattle.dq_machine.specs.State.{none_left}
+use Rattle.dq_check.proofs.order.none_from.Given as goal
+
+abbrev pub invariant-loop-place : goal.invariant-loop-place
+invariant-loop-place l =
+    none_left (entries_of l.lane (drop l.from l.journal)) ≡ none_left (entries_of l.lane (drop l.place l.journal))

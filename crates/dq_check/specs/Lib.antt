@@ -1,0 +1,12 @@
+pub mod AllExplained
+pub mod Dues
+pub mod Ends
+pub mod Fates
+pub mod Forcing
+pub mod Grounds
+pub mod Losses
+pub mod Owed
+pub mod Reports
+pub mod Takes
+pub mod Verdicts
+pub mod Walks

@@ -1,6 +1,0 @@
-use Rattle.dq_journal.specs.Shown.{joint_at}
-use Rattle.dq_top.proofs.Shows.{LanesShowing}
-use Rattle.dq_top.proofs.showing.show.Given as goal
-
-abbrev pub invariant-loop-place : goal.invariant-loop-place
-invariant-loop-place l = LanesShowing (joint_at l.script) l.results l.place l.shown

@@ -1,6 +1,0 @@
-use Rattle.dq_journal.specs.Shown.{joint_at}
-use Rattle.dq_top.proofs.Shows.{StepsShowing}
-use Rattle.dq_top.proofs.showing.show_lane.Given as goal
-
-abbrev pub invariant-loop-place : goal.invariant-loop-place
-invariant-loop-place l = StepsShowing (joint_at l.script l.lane) l.steps l.place l.shown
