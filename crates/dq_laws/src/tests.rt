@@ -3,8 +3,8 @@ ghost use Rattle.std.specs.Prelude.{◌≡◌, [], ◌∷◌, IfOk};
 ghost use Rattle.dq_base.specs.Scripts.{IsScript};
 
 use crate::{
-    flights_are_few, flights_are_numbered, flights_lose_few, losses_are_few, published_rows_stay,
-    running_flights_are_own, some_lane_goes_on, stamps_are_published,
+    flights_are_few, flights_are_numbered, flights_lose_few, joined_flights_stay, losses_are_few,
+    published_rows_stay, running_flights_are_own, some_lane_goes_on, stamps_are_published,
 };
 use dq_base::{Bound, Fails, FailsList, LaneSteps, List, Memory, Script, Steps};
 use dq_extract::{Loaded, SegmentList};
@@ -75,6 +75,7 @@ fn one_lane_is_left(rt: HostRuntime) -> Result<(), Fail> {
     let journal = [Entry::End { lane: 2 }];
     some_lane_goes_on(&loaded, &journal, 1);
     running_flights_are_own(&loaded, &journal);
+    joined_flights_stay(&loaded, &journal);
     flights_are_numbered(&loaded, &journal);
     flights_are_few(&loaded, &journal);
     losses_are_few(&loaded, &journal, 1);

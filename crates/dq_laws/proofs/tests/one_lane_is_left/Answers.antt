@@ -32,6 +32,9 @@ some_lane_goes_on-requires-clause-unended c = unended c.in_ok-loaded.loaded c.in
 pub running_flights_are_own-requires : goal.running_flights_are_own-requires
 running_flights_are_own-requires c = record { legal = ends c.in_ok-loaded.loaded c.in_ok-loaded.ensures }
 
+pub joined_flights_stay-requires : goal.joined_flights_stay-requires
+joined_flights_stay-requires c = record { legal = ends c.in_ok-loaded.loaded c.in_ok-loaded.ensures }
+
 pub flights_are_numbered-requires : goal.flights_are_numbered-requires
 flights_are_numbered-requires c = record { legal = ends c.in_ok-loaded.loaded c.in_ok-loaded.ensures }
 
