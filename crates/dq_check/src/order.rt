@@ -2,7 +2,7 @@ ghost use Rattle.std.specs.List.{flat_map, list_all};
 ghost use Rattle.std.specs.Option.{option_copied};
 ghost use Rattle.std.specs.Prelude.{◌≡◌, ◌++◌, ◌≤◌, IfOk, OnOk, drop, length, nat_eq};
 ghost use Rattle.std.specs.Cmp.Lexicographic.{pointwise};
-ghost use Rattle.dq_base.specs.Scripts.{numbered, step_of};
+ghost use Rattle.dq_base.specs.Scripts.{numbered};
 ghost use Rattle.dq_journal.specs.Journals as journals;
 ghost use Rattle.dq_journal.specs.Right as named;
 ghost use Rattle.dq_journal.specs.Right.{done_from, entries_of, steps_named};
@@ -12,6 +12,7 @@ ghost use Rattle.dq_machine.specs.State.{none_left};
 use dq_base::{LaneSteps, List, Memory, Numbers64, Step, Steps};
 use dq_extract::Loaded;
 use dq_journal::{Entry, LaneResults, LaneResultsList, StepResult};
+use dq_machine::{lane_of, step_at};
 use std::alloc::Global;
 
 /// The entry at a place from 1.
@@ -101,24 +102,6 @@ fn tell_places(journal: &[Entry], lane: u64, steps: &[Step], told: &[StepResult]
     true
 }
 
-/// The lane that an entry is of.
-pub(crate) fn lane_of(entry: &Entry) -> u64
-    ensures { result ≡ journals.lane_of entry.now }
-{
-    let lane = match entry {
-        Entry::Publish { lane, .. } => lane,
-        Entry::Admit { lane, .. } => lane,
-        Entry::Lease { lane, .. } => lane,
-        Entry::Give { lane, .. } => lane,
-        Entry::Lose { lane, .. } => lane,
-        Entry::Land { lane, .. } => lane,
-        Entry::Fall { lane, .. } => lane,
-        Entry::Take { lane, .. } => lane,
-        Entry::End { lane } => lane,
-    };
-    u64::from(*lane)
-}
-
 /// Puts the step that an entry names at the end, if it names one.
 fn push_step(steps: &mut Numbers64, entry: &Entry) -> Result<(), Memory>
     ensures { OnOk result (steps.new ≡ steps.old ++ named.step_in entry.now) }
@@ -136,7 +119,7 @@ fn steps_in(alloc: Global, journal: &[Entry], lane: u64) -> Result<Numbers64, Me
 {
     let mut steps = List::new(alloc);
     for entry in journal {
-        if lane_of(entry) == lane {
+        if u64::from(lane_of(entry)) == lane {
             push_step(&mut steps, entry)?;
         }
     }
@@ -197,7 +180,7 @@ fn none_from(journal: &[Entry], lane: u64, from: usize) -> bool
     ensures { result ≡ none_left (entries_of lane (drop from journal.now)) }
 {
     for place in from..journal.len() {
-        if lane_of(&journal[place]) == lane {
+        if u64::from(lane_of(&journal[place])) == lane {
             return false;
         }
     }
@@ -209,7 +192,7 @@ fn ends_once(journal: &[Entry], lane: u64) -> bool
     ensures { result ≡ specified.ends_once (entries_of lane journal.now) }
 {
     for (place, entry) in journal.iter().enumerate() {
-        if lane_of(entry) == lane && is_end(entry) {
+        if u64::from(lane_of(entry)) == lane && is_end(entry) {
             return none_from(journal, lane, place + 1);
         }
     }
@@ -255,13 +238,6 @@ fn lanes_keep(
     Ok(true)
 }
 
-/// The step of that number in a lane.
-pub(crate) fn step_at(lanes: &LaneSteps, lane: u32, number: u32) -> Option<&Step>
-    ensures { option_copied result ≡ step_of lanes.now lane number }
-{
-    lanes.numbered(lane)?.numbered(number)
-}
-
 /// Whether the entry's step, if it names one, is of its kind.
 fn names_kind(lanes: &LaneSteps, entry: &Entry) -> bool
     ensures { result ≡ specified.names_kind entry.now (steps_named lanes.now (journals.lane_of entry.now) (named.step_in entry.now)) }
@@ -284,7 +260,7 @@ fn is_known(lanes: &LaneSteps, entry: &Entry) -> bool
     ensures { result ≡ specified.is_known lanes.now entry.now }
 {
     let lane = lane_of(entry);
-    0 < lane && lane <= lanes.len() && names_kind(lanes, entry)
+    0 < lane && u64::from(lane) <= lanes.len() && names_kind(lanes, entry)
 }
 
 /// Whether all entries are known so.

@@ -4,9 +4,9 @@ ghost use Rattle.dq_journal.specs.Right.{entries_of};
 ghost use Rattle.dq_machine.specs.Owning.{started_in};
 ghost use Rattle.dq_check.specs.Takes.{AreTakes, behind_count, behind_of};
 
-use crate::order::lane_of;
 use dq_base::Memory;
 use dq_journal::Entry;
+use dq_machine::lane_of;
 use std::alloc::Global;
 use std::marker::Model;
 
@@ -30,7 +30,7 @@ impl Model for Takes {
 fn push_started(started: &mut Vec<Option<u64>>, entry: &Entry, lane: u64) -> Result<(), Memory>
     ensures { OnOk result (started.new.items ≡ started.old.items ++ flat_map started_in (entries_of lane (entry.now ∷ []))) }
 {
-    if lane_of(entry) != lane {
+    if u64::from(lane_of(entry)) != lane {
         return Ok(());
     }
     if let Entry::Take { next, .. } = entry {

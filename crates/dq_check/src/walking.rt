@@ -3,11 +3,10 @@ ghost use Rattle.std.specs.Prelude.{◌≡◌, IfOk};
 ghost use Rattle.dq_check.specs.Ends.{IsWalked};
 ghost use Rattle.dq_check.specs.Walks.{stamps_at, stamps_of};
 
-use crate::order::step_at;
 use dq_base::{List, Memory, Numbers64, Query, Step};
 use dq_extract::Loaded;
 use dq_journal::Entry;
-use dq_machine::Machine;
+use dq_machine::{Machine, step_at};
 use std::alloc::Global;
 use std::marker::Model;
 use std::sync::Arc;

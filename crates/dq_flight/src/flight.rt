@@ -92,6 +92,14 @@ impl Flight {
         self.number
     }
 
+    /// Its stamp and its key.
+    pub(crate) fn asked(&self) -> (u64, &Arc<Canon>)
+        ensures stamp { result.0 ≡ self.now.stamp }
+        ensures key { arc_value result.1.now ≡ self.now.key }
+    {
+        (self.stamp, &self.key)
+    }
+
     /// How many wait for it.
     pub(crate) fn joiners(&self) -> u64
         ensures { result ≡ self.now.joiners }

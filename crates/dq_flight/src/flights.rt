@@ -1,7 +1,7 @@
 ghost use Rattle.std.specs.Arc.{arc_value};
 ghost use Rattle.std.specs.List.{list_all};
-ghost use Rattle.std.specs.Option.{option_map};
-ghost use Rattle.std.specs.Prelude.{◌≡◌, ◌+◌, ◌-◌, ◌^◌, ◌<◌, ◌≤◌, ◌||◌, [], ◌∷◌, ◌++◌, find, length, nat_le, nat_lt, not, position, true, IfSome, IsSomeAnd, IsTrue, OnOk, vec_capacity, vec_len};
+ghost use Rattle.std.specs.Option.{option_copied, option_map};
+ghost use Rattle.std.specs.Prelude.{◌≡◌, ◌+◌, ◌-◌, ◌^◌, ◌<◌, ◌≤◌, ◌||◌, [], ◌∷◌, ◌++◌, find, length, nat_le, nat_lt, not, position, true, IfSome, IsSomeAnd, IsTrue, MatchOption, None, OnOk, vec_capacity, vec_len};
 ghost use Rattle.dq_flight.specs.Flights.{Fallen, FlightOf, Landed, Running, ascends, ended, fits, flight_of, is_numbered, joined, replaced, runs, taken};
 ghost use Rattle.dq_flight.specs.Looks.{LooksAt};
 ghost use Rattle.dq_flight.specs.States.{course_of};
@@ -28,6 +28,13 @@ impl Model for Flights {
     ghost view = { λ f. record { flights = f.flights.items; spare = vec_capacity f.flights - vec_len f.flights } };
 
     ghost invariant = { λ f. ascends f.flights.items ≡ true };
+}
+
+/// The flight of a number.
+fn flight_at(flights: &[Flight], number: u64) -> Option<&Flight>
+    ensures { option_copied result ≡ flight_of number flights.now }
+{
+    flights.iter().find(|f| f.number() == number)
 }
 
 /// The place of the flight of that number.
@@ -121,6 +128,18 @@ impl Flights {
         ensures lowest { IfSome result (λ number. list_all (λ f. not (fits stamp q.now f) || nat_le number f.number) self.now.flights ≡ true) }
     {
         first_fit(self.flights.as_slice(), stamp, q)
+    }
+
+    /// The stamp and the key of the flight of that number; none exactly where there is none. It takes no memory, and looks for the
+    /// flight by its number.
+    pub fn asked(&self, number: u64) -> Option<(u64, &Arc<Canon>)>
+        ensures { MatchOption result (flight_of number self.now.flights ≡ None)
+            (λ both. IsSomeAnd (flight_of number self.now.flights) (λ f. (both.0 ≡ f.stamp) × (arc_value both.1.now ≡ f.key))) }
+    {
+        match flight_at(self.flights.as_slice(), number) {
+            None => None,
+            Some(flight) => Some(flight.asked()),
+        }
     }
 
     /// Starts a flight in room that was taken before. Nobody waits for it yet.

@@ -13,7 +13,7 @@ use Rattle.dq_journal.specs.declared.entry.Entry.TheVariants.{Publish, Admit, Le
 use Rattle.dq_machine.proofs.Reached.{allowed_above, allowed_may, allowed_within, and_first, and_second}
 use Rattle.dq_machine.specs.Admitting.{admission_of, numbers_from}
 use Rattle.dq_machine.specs.Leasing.{is_next, leased, leased_from, lost, may_lease, may_lose}
-use Rattle.dq_machine.specs.Machine.{allowed, legal, legal_from, next, work_admitted}
+use Rattle.dq_machine.specs.Machine.{after, allowed, legal, legal_from, next, run, work_admitted}
 use Rattle.dq_machine.specs.Owning.{loses, losses_of}
 use Rattle.dq_machine.specs.State.{Flown, LinkOf, Phase, New, Leased, Given, State, Work, flight_at, is_first, is_free, no_work, none_left, start, work_of}
 use Rattle.dq_machine.specs.Taking.{flights_taken, is_first_join, may_take, takes_as, work_taken}
@@ -59,7 +59,7 @@ no_lost m zero (suc i) = record { own = tt; rises = tt }
 no_lost m (suc n) zero = record { own = tt; rises = tt }
 no_lost m (suc n) (suc i) = no_lost m n i
 
-no_own : (n i k : ℕ) → Among k (get_or (replicate n no_work) i no_work).own → ⊥
+pub no_own : (n i k : ℕ) → Among k (get_or (replicate n no_work) i no_work).own → ⊥
 no_own zero zero k a = a
 no_own zero (suc i) k a = a
 no_own (suc n) zero k a = a
@@ -186,7 +186,7 @@ rises_dropped : (own : List ℕ) → Rises own → Rises (drop 1 own)
 rises_dropped [] h = tt
 rises_dropped (f ∷ own) h = h.1
 
-drop_among : (own : List ℕ) (n : ℕ) → Among n (drop 1 own) → Among n own
+pub drop_among : (own : List ℕ) (n : ℕ) → Among n (drop 1 own) → Among n own
 drop_among [] n a = a
 drop_among (f ∷ own) n a = inr a
 
@@ -207,7 +207,7 @@ numbers_lost m number [] none = tt
 numbers_lost m number (g ∷ gs) none =
     ((none number (omega arith), omega arith), numbers_none m (number + 1) gs (λ f le. let more : number ≤ f = omega arith in none f more))
 
-numbers_among : (number n : ℕ) (gs : List Group) → Among n (numbers_from number gs) → (number ≤ n) × (n + 1 ≤ number + length gs)
+pub numbers_among : (number n : ℕ) (gs : List Group) → Among n (numbers_from number gs) → (number ≤ n) × (n + 1 ≤ number + length gs)
 numbers_among number n [] a = absurd a
 numbers_among number n (g ∷ gs) (inl e) = (omega (arith, e), omega (arith, e))
 numbers_among number n (g ∷ gs) (inr a) = let both = numbers_among (number + 1) n gs a in (omega (arith, both.0), omega (arith, both.1))
@@ -224,7 +224,7 @@ lose_leased (New losses) o link dialled ran runs calls may = cc
 lose_leased (Leased losses fresh k) o link dialled ran runs calls may = refl
 lose_leased (Given given) o link dialled ran runs calls may = cc
 
-first_among : (own : List ℕ) (flight : ℕ) → is_first own flight ≡ true → Among flight own
+pub first_among : (own : List ℕ) (flight : ℕ) → is_first own flight ≡ true → Among flight own
 first_among [] flight first = let no : ⊥ = cc in absurd no
 first_among (f ∷ own) flight first = inl (eqb-true f flight first)
 
@@ -237,7 +237,7 @@ lost_told (New losses) n n' e may t = let no : ⊥ = cc in absurd no
 lost_told (Leased losses fresh k) n n' e may t = ((omega (arith, e, t.0), omega (arith, t.1)), omega (arith, e, t.0, t.1))
 lost_told (Given ran) n n' e may t = let no : ⊥ = cc in absurd no
 
-above_among : (low n : ℕ) (own : List ℕ) → Each (λ g. low < g) own → Among n own → low < n
+pub above_among : (low n : ℕ) (own : List ℕ) → Each (λ g. low < g) own → Among n own → low < n
 above_among low n [] h a = absurd a
 above_among low n (f ∷ own) h (inl e) = omega (arith, h.0, e)
 above_among low n (f ∷ own) h (inr a) = above_among low n own h.1 a
@@ -372,14 +372,18 @@ IsLosing-next l past s (End lane) h a =
     losing_same (losses_of past) (losses_of (past ++ e ∷ [])) _ _ (λ n. push_kept past e n refl)
     (same_step (losses_of past) s.works s.flights.started (lane - 1) _ (there l s e a) h refl (h.each (lane - 1)).own)
 
-run_few : (l : LoadedFiles) (past : List Entry) (s : State) (es : List Entry) → IsLosing (losses_of past) s.works s.flights.started → legal_from l s es ≡ true
-    → (f : ℕ) → losses_of (past ++ es) f ≤ 2
-run_few l past s [] h legal f = let few = h.few f in rw (append-nil past) few
-run_few l past s (e ∷ es) h legal f =
+run_losing : (l : LoadedFiles) (past : List Entry) (s : State) (es : List Entry) → IsLosing (losses_of past) s.works s.flights.started → legal_from l s es ≡ true
+    → IsLosing (losses_of (past ++ es)) (run l s es).works (run l s es).flights.started
+run_losing l past s [] h legal = rw (append-nil past) h
+run_losing l past s (e ∷ es) h legal =
     let one = IsLosing-next l past s e h (and_first (allowed l s e) (legal_from l (next l s e) es) legal) in
-    let rest = run_few l (past ++ e ∷ []) (next l s e) es one (and_second (allowed l s e) (legal_from l (next l s e) es) legal) f in
+    let rest = run_losing l (past ++ e ∷ []) (next l s e) es one (and_second (allowed l s e) (legal_from l (next l s e) es) legal) in
     rw (← append_assoc past (e ∷ []) es) rest
 
+pub IsLosing-after : (l : LoadedFiles) (journal : List Entry) → legal l journal ≡ true
+    → IsLosing (losses_of journal) (after l journal).works (after l journal).flights.started
+unfolding after legal
+IsLosing-after l journal h = run_losing l [] (start l) journal (IsLosing-start l) h
+
 pub losses_few : (l : LoadedFiles) (journal : List Entry) (flight : ℕ) → legal l journal ≡ true → losses_of journal flight ≤ 2
-unfolding legal
-losses_few l journal flight h = run_few l [] (start l) journal (IsLosing-start l) h flight
+losses_few l journal flight h = (IsLosing-after l journal h).few flight

@@ -18,7 +18,7 @@ or_second : (a b : Bool) → b ≡ true → (a || b) ≡ true
 or_second true b h = refl
 or_second false b h = h
 
-any_among : (own : List ℕ) (n : ℕ) → Among n own → list_any (nat_eq n) own ≡ true
+pub any_among : (own : List ℕ) (n : ℕ) → Among n own → list_any (nat_eq n) own ≡ true
 any_among [] n a = absurd a
 any_among (m ∷ own) n (inl e) = let same : eqb n m ≡ true = eq-eqb n m (sym e) in rw same refl
 any_among (m ∷ own) n (inr a) = or_second (nat_eq n m) (list_any (nat_eq n) own) (any_among own n a)

@@ -34,7 +34,7 @@ adds_after versions new (Some (step.Publish source how file)) =
     let v : Publication = record { source = source; rows = published how (rows_in versions source) new } in
     record { more = omega arith; rows = λ stamp le. one_rows v versions stamp le (eqb_tells stamp (length versions + 1)) }
 
-adds_next : (l : LoadedFiles) (s : State) (e : Entry) → Adds s.versions (next l s e).versions
+pub adds_next : (l : LoadedFiles) (s : State) (e : Entry) → Adds s.versions (next l s e).versions
 adds_next l s (Publish lane number) = adds_after s.versions (version_rows (segment_of l lane number)) (step_of l.script.lanes lane number)
 adds_next l s (Admit lane number met) = same_adds s.versions
 adds_next l s (Lease lane flight link fresh) = same_adds s.versions
@@ -55,7 +55,7 @@ adds_run l s (e ∷ es) =
       rows = λ stamp le. let later : stamp ≤ length (next l s e).versions = omega (arith, le, one.more) in rest.rows stamp later ∙ one.rows stamp le;
     }
 
-run_append : (l : LoadedFiles) (s : State) (es fs : List Entry) → run l s (es ++ fs) ≡ run l (run l s es) fs
+pub run_append : (l : LoadedFiles) (s : State) (es fs : List Entry) → run l s (es ++ fs) ≡ run l (run l s es) fs
 run_append l s [] fs = refl
 run_append l s (e ∷ es) fs = run_append l (next l s e) es fs
 

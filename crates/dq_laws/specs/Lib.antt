@@ -1,5 +1,12 @@
+pub mod Counts
+pub mod Flying
 pub mod Going
 pub mod Joins
+pub mod Keys
+pub mod Lengths
+pub mod Links
 pub mod Numbers
 pub mod Owning
+pub mod Room
+pub mod Settled
 pub mod Stamps

@@ -3,8 +3,11 @@ ghost use Rattle.std.specs.Prelude.{◌≡◌, [], ◌∷◌, IfOk};
 ghost use Rattle.dq_base.specs.Scripts.{IsScript};
 
 use crate::{
-    flights_are_few, flights_are_numbered, flights_lose_few, joined_flights_stay, losses_are_few,
-    published_rows_stay, running_flights_are_own, some_lane_goes_on, stamps_are_published,
+    calls_are_few, counts_are_few, fates_are_settled, flights_are_few, flights_are_numbered,
+    flights_lose_few, idle_lanes_stay, joined_flights_stay, journals_are_short, keys_are_valid,
+    left_flights_are_over, links_are_few, links_differ, losses_are_few, other_lanes_stay,
+    owed_room_lasts, own_flights_run, published_rows_stay, running_flights_are_own,
+    some_lane_goes_on, stamps_are_published,
 };
 use dq_base::{Bound, Fails, FailsList, LaneSteps, List, Memory, Script, Steps};
 use dq_extract::{Loaded, SegmentList};
@@ -76,11 +79,25 @@ fn one_lane_is_left(rt: HostRuntime) -> Result<(), Fail> {
     some_lane_goes_on(&loaded, &journal, 1);
     running_flights_are_own(&loaded, &journal);
     joined_flights_stay(&loaded, &journal);
+    links_are_few(&loaded, &journal);
+    links_differ(&loaded, &journal, 1);
+    counts_are_few(&loaded, &journal);
+    calls_are_few(&loaded, &journal);
+    journals_are_short(&loaded, &journal);
+    let before: [Entry; 0] = [];
+    owed_room_lasts(&loaded, &before, &Entry::End { lane: 2 });
     flights_are_numbered(&loaded, &journal);
     flights_are_few(&loaded, &journal);
     losses_are_few(&loaded, &journal, 1);
     flights_lose_few(&loaded, &journal, 1);
     stamps_are_published(&loaded, &journal);
     published_rows_stay(&loaded, &journal, &journal, 0);
+    keys_are_valid(&loaded, &journal);
+    own_flights_run(&loaded, &journal);
+    other_lanes_stay(&loaded, &before, &Entry::End { lane: 2 }, 1);
+    idle_lanes_stay(&loaded, &before, &journal, 1);
+    let more = [Entry::End { lane: 1 }];
+    left_flights_are_over(&loaded, &journal, &more, 0);
+    fates_are_settled(&loaded, &journal, &more, 0);
     Ok(())
 }

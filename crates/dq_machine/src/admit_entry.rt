@@ -28,7 +28,7 @@ fn zones_at(script: &Script, lane: u32, step: u32) -> Option<&Queries>
     ensures kind { MatchOption result (specified.is_batch (step_of script.now.lanes lane step) ≡ false) (λ zones. specified.is_batch (step_of script.now.lanes lane step) ≡ true) }
     ensures zones { MatchOption result (specified.is_batch (step_of script.now.lanes lane step) ≡ false) (λ zones. zones_of (step_of script.now.lanes lane step) ≡ zones.now) }
 {
-    match step_at(script, lane, step) {
+    match step_at(&script.lanes, lane, step) {
         None => None,
         Some(Step::Publish { .. }) => None,
         Some(Step::Batch(zones)) => Some(zones),

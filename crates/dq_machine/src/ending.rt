@@ -1,20 +1,13 @@
 ghost use Rattle.std.specs.List.{remove};
-ghost use Rattle.std.specs.Prelude.{◌≡◌, ◌+◌, ◌<◌, IfOk, OnOk, length, position};
+ghost use Rattle.std.specs.Prelude.{◌≡◌, ◌+◌, ◌<◌, IfOk, OnOk, length};
 ghost use Rattle.dq_machine.specs.Landing as landing;
-ghost use Rattle.dq_machine.specs.State.{is_numbered};
 ghost use Rattle.dq_machine.specs.Taking as taking;
 ghost use Rattle.dq_machine.specs.Views.{course_of};
 
+use crate::flights::place_of;
 use crate::flown::{Course, Flown};
 use dq_base::{List, Memory};
 use std::sync::Arc;
-
-// The place of the flight of that number.
-fn place_of(flown: &[Flown], number: u64) -> Option<usize>
-    ensures { result ≡ position (is_numbered number) flown.now }
-{
-    flown.iter().position(|flight| flight.number == number)
-}
 
 // The same flight again.
 fn copy_of(flight: &Flown) -> Result<Flown, Memory>

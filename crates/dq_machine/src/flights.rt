@@ -53,7 +53,7 @@ pub(crate) fn look_flights(flown: &List<Flown>, stamp: u64, q: &Canon) -> Option
 }
 
 /// The place of the flight of that number.
-fn place_of(flown: &[Flown], number: u64) -> Option<usize>
+pub(crate) fn place_of(flown: &[Flown], number: u64) -> Option<usize>
     ensures { result ≡ position (is_numbered number) flown.now }
 {
     flown.iter().position(|flight| flight.number == number)

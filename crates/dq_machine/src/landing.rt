@@ -1,4 +1,4 @@
-ghost use Rattle.std.specs.Prelude.{◌≡◌, ◌≤◌, ◌*◌, ◌^◌, map, sum, length, not, is_none, nat_eq, OnOk, OnErr};
+ghost use Rattle.std.specs.Prelude.{◌≡◌, ◌+◌, ◌<◌, ◌≤◌, ◌*◌, ◌^◌, map, sum, length, not, is_none, nat_eq, OnOk, OnErr};
 ghost use Rattle.dq_cache.specs.Entries as shelves;
 ghost use Rattle.dq_machine.specs.Admitting.{has_same};
 ghost use Rattle.dq_machine.specs.Landing as specified;
@@ -38,15 +38,15 @@ fn weight_of(cells: u64) -> u64
     if cells == 0 { 1 } else { cells }
 }
 
-// Whether an answer of so many cells is too large.
-fn is_large(bound: Bound, cells: u64) -> bool
+/// Whether a cache with that bound keeps no answer of so many cells.
+pub fn is_large(bound: Bound, cells: u64) -> bool
     ensures { result ≡ shelves.is_large bound cells }
 {
     MOST_CELLS < cells || is_beyond(bound, weight_of(cells))
 }
 
-// Why an answer isn't kept, if it isn't: the first that applies.
-fn refusal(topped: bool, large: bool, stale: bool) -> Option<Kept>
+/// Why a cache doesn't keep an answer, if it doesn't: the first that applies.
+pub fn refusal(topped: bool, large: bool, stale: bool) -> Option<Kept>
     ensures { result ≡ shelves.refusal topped large stale }
 {
     if topped {
@@ -136,28 +136,41 @@ fn total(shelf: &[Shelved]) -> u128
     total
 }
 
-// Whether a shelf has too much.
-fn is_over(bound: Bound, shelf: &List<Shelved>) -> bool
+// Whether a shelf whose answers count so much together has too much.
+fn is_over(bound: Bound, shelf: &List<Shelved>, total: u128) -> bool
+    requires { total ≡ sum (map (λ (e : ShelvedOf). e.weight) shelf.now) }
     ensures { result ≡ shelves.is_over bound (map (λ (e : ShelvedOf). e.weight) shelf.now) }
 {
     match bound {
         Bound::Entries(most) => u64::from(most) < shelf.len(),
-        Bound::Cells(most) => u128::from(most) < total(shelf.as_slice())
-            || MOST_ENTRIES < shelf.len(),
+        Bound::Cells(most) => u128::from(most) < total || MOST_ENTRIES < shelf.len(),
     }
 }
 
-// Drops the last answer as long as there is too much.
+// Drops the last answer, and answers how much it counted.
+fn drop_last(shelf: &mut List<Shelved>) -> u64
+    requires { 0 < length shelf.old }
+    ensures shelf { shelf.new ≡ shelves.without_last shelf.old }
+    ensures weight { sum (map (λ (e : ShelvedOf). e.weight) shelf.old) ≡ sum (map (λ (e : ShelvedOf). e.weight) shelf.new) + result }
+{
+    let last = shelf.len() - 1;
+    let entry = &shelf.as_slice()[last as usize];
+    let weight = entry.weight;
+    shelf.truncate(last);
+    weight
+}
+
+// Drops the last answer as long as there is too much. The total is taken once.
 fn trim(bound: Bound, shelf: &mut List<Shelved>)
     ensures { shelf.new ≡ shelves.trimmed (λ (e : ShelvedOf). e.weight) bound shelf.old }
 {
+    let mut weight = total(shelf.as_slice());
     for dropped in 0..shelf.len() {
         let _ = dropped;
-        if !is_over(bound, shelf) {
+        if !is_over(bound, shelf, weight) {
             return;
         }
-        let last = shelf.len() - 1;
-        shelf.truncate(last);
+        weight -= u128::from(drop_last(shelf));
     }
 }
 
@@ -189,8 +202,7 @@ fn keep(shelf: &mut List<Shelved>, bound: Bound, flight: &Flown, cells: u64) -> 
     Ok(())
 }
 
-/// What the landing of a flight with so many cells leaves on a shelf that says this. The cost is linear in the shelf, and in it
-/// once more for each answer that is dropped.
+/// What the landing of a flight with so many cells leaves on a shelf that says this. The cost is linear in the shelf.
 pub(crate) fn land_on(
     shelf: &mut List<Shelved>,
     bound: Bound,

@@ -47,11 +47,13 @@ mod shelved;
 mod stands;
 mod steps;
 mod taking;
-#[cfg(test)]
-mod tests;
 mod versions;
 mod work;
 mod works;
 
-pub use machine::Machine;
-pub use preparing::canons;
+pub use landing::{is_large, refusal};
+pub use machine::{Machine, lane_of};
+pub use meeting::{meets, miss_numbers, missed};
+pub use preparing::{canons, remote_among};
+pub use stands::{Refresh, Stand, no_stands, refresh_by_step};
+pub use steps::step_at;

@@ -41,8 +41,8 @@ impl Model for Machine {
     ghost invariant = { λ m. AreParts (arc_value m.loaded) m.parts };
 }
 
-// The lane that an entry is of.
-fn lane_of(entry: &Entry) -> u32
+/// The lane that an entry is of.
+pub fn lane_of(entry: &Entry) -> u32
     ensures { result ≡ journals.lane_of entry.now }
 {
     match entry {

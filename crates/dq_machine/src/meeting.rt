@@ -31,11 +31,7 @@ fn add_miss(met: Option<Option<Met>>, q: &Arc<Canon>, misses: &mut Canons) -> Re
 }
 
 /// The queries that met nothing, in their order.
-pub(crate) fn missed(
-    alloc: Global,
-    found: &List<Option<Met>>,
-    queries: &Canons,
-) -> Result<Canons, Memory>
+pub fn missed(alloc: Global, found: &List<Option<Met>>, queries: &Canons) -> Result<Canons, Memory>
     ensures { IfOk result (λ misses. misses ≡ specified.missed found.now queries.now) }
 {
     let mut misses = Canons::new(alloc);
@@ -72,7 +68,7 @@ fn group_number(first: u64, groups: &Groups, place: u64) -> u64
 }
 
 /// The numbers of the misses' groups, in their order.
-pub(crate) fn miss_numbers(
+pub fn miss_numbers(
     alloc: Global,
     first: u64,
     groups: &Groups,
@@ -89,7 +85,7 @@ pub(crate) fn miss_numbers(
 }
 
 /// What each query met, where each miss has its group's number.
-pub(crate) fn meets(alloc: Global, found: &[Option<Met>], numbers: &[u64]) -> Result<Meets, Memory>
+pub fn meets(alloc: Global, found: &[Option<Met>], numbers: &[u64]) -> Result<Meets, Memory>
     ensures { IfOk result (λ meets. meets ≡ meets_of found.now numbers.now) }
 {
     let mut meets = List::new(alloc);

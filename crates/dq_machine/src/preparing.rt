@@ -57,8 +57,8 @@ fn add_remote(role: Option<Role>, q: &Arc<Canon>, remotes: &mut Canons) -> Resul
     Ok(())
 }
 
-/// The queries that aren't answered from one another.
-fn remote_among(alloc: Global, roles: &Roles, queries: &Canons) -> Result<Canons, Memory>
+/// The queries of a batch that aren't answered from one another, in zone order. In linear time.
+pub fn remote_among(alloc: Global, roles: &Roles, queries: &Canons) -> Result<Canons, Memory>
     ensures { IfOk result (λ remotes. remotes ≡ specified.remote_among roles.now queries.now) }
 {
     let mut remotes = Canons::new(alloc);

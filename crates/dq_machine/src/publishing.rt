@@ -6,6 +6,7 @@ ghost use Rattle.dq_machine.specs.Publishing as specified;
 ghost use Rattle.dq_machine.specs.Publishing.{is_publish, versions_published};
 ghost use Rattle.dq_machine.specs.Refreshing.{AreStanding, CanRefresh};
 
+use crate::shelf::copy_of;
 use crate::shelved::{Shelved, Shelves};
 use crate::stands::{Refresh, Stand, refresh_by_step};
 use crate::steps::step_at;
@@ -14,18 +15,6 @@ use dq_base::{List, Memory, Script, Step};
 use dq_extract::Loaded;
 use std::alloc::Global;
 use std::sync::Arc;
-
-// The same answer again.
-fn copy_of(entry: &Shelved) -> Result<Shelved, Memory>
-    ensures { IfOk result (λ copy. copy ≡ entry.now) }
-{
-    Ok(Shelved {
-        flight: entry.flight,
-        stamp: entry.stamp,
-        key: Arc::try_clone(&entry.key)?,
-        weight: entry.weight,
-    })
-}
 
 // Puts an answer at the end, if it is of another source.
 fn keep_other(kept: &mut List<Shelved>, entry: &Shelved, source: u32) -> Result<(), Memory>
@@ -62,7 +51,7 @@ pub(crate) fn clear_shelves(
 ) -> Result<(), Memory>
     ensures { OnOk result (shelves.new ≡ specified.shelves_after shelves.old (step_of script.now.lanes lane step)) }
 {
-    let Some(Step::Publish { source, .. }) = step_at(script, lane, step) else {
+    let Some(Step::Publish { source, .. }) = step_at(&script.lanes, lane, step) else {
         return Ok(());
     };
     shelves.clever = without_source(alloc, &shelves.clever, *source)?;

@@ -48,7 +48,7 @@ pub(crate) fn same_place(shelf: &[Shelved], stamp: u64, q: &Canon) -> Option<usi
 }
 
 /// The same answer again.
-fn copy_of(entry: &Shelved) -> Result<Shelved, Memory>
+pub(crate) fn copy_of(entry: &Shelved) -> Result<Shelved, Memory>
     ensures { IfOk result (λ copy. copy ≡ entry.now) }
 {
     Ok(Shelved {

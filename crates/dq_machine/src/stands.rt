@@ -16,7 +16,7 @@ use std::sync::Arc;
 
 /// What stands of an extract. Contracts see the version.
 #[derive(Drop)]
-pub(crate) struct Stand {
+pub struct Stand {
     extract: Arc<Extract>,
 }
 
@@ -31,14 +31,14 @@ impl Model for Stand {
 
 impl Stand {
     /// That version.
-    pub(crate) fn new(extract: Arc<Extract>) -> Stand
+    pub fn new(extract: Arc<Extract>) -> Stand
         ensures { result ≡ arc_value extract }
     {
         Stand { extract }
     }
 
-    // The version.
-    fn extract(&self) -> &Arc<Extract>
+    /// The version.
+    pub fn extract(&self) -> &Arc<Extract>
         ensures { arc_value result.now ≡ self.now }
     {
         &self.extract
@@ -47,9 +47,9 @@ impl Stand {
 
 /// An extract, by its number, as a publication leaves it.
 #[derive(Drop)]
-pub(crate) struct Refresh {
-    pub(crate) source: u32,
-    pub(crate) extract: Arc<Extract>,
+pub struct Refresh {
+    pub source: u32,
+    pub extract: Arc<Extract>,
 }
 
 // The segment's rows in place of the standing ones, or behind them.
@@ -71,7 +71,7 @@ fn refreshed(
 }
 
 /// What stands of each extract before anything was published, by the extracts' numbers. The cost is linear in their columns.
-pub(crate) fn no_stands(alloc: Global, schemas: &Schemas) -> Result<Vec<Stand>, Memory>
+pub fn no_stands(alloc: Global, schemas: &Schemas) -> Result<Vec<Stand>, Memory>
     ensures { IfOk result (λ stands. stands.items ≡ map no_stand schemas.now) }
 {
     let mut stands = Vec::new(alloc);
@@ -84,7 +84,7 @@ pub(crate) fn no_stands(alloc: Global, schemas: &Schemas) -> Result<Vec<Stand>, 
 
 /// The extract as a publish step leaves it, and its number. Rows are shared, not copied: the cost is linear in the number of
 /// segments that stand of the source.
-pub(crate) fn refresh_by_step(
+pub fn refresh_by_step(
     alloc: Global,
     loaded: &Loaded,
     stands: &[Stand],
@@ -94,7 +94,7 @@ pub(crate) fn refresh_by_step(
     requires { CanRefresh stands.now (step_of loaded.now.script.lanes lane step) (segment_of loaded.now lane step) }
     ensures { IfOk result (λ fresh. IsRefresh stands.now (step_of loaded.now.script.lanes lane step) (segment_of loaded.now lane step) fresh.source (arc_value fresh.extract)) }
 {
-    let Some(Step::Publish { source, how, .. }) = step_at(loaded.script(), lane, step) else {
+    let Some(Step::Publish { source, how, .. }) = step_at(&loaded.script().lanes, lane, step) else {
         unreachable!();
     };
     let Some(segment) = loaded.segment(lane, step) else {

@@ -26,8 +26,10 @@ null 4 1
 "West" 7 2
 "#;
 
-// What stands in the report, what stands in its place, the status, and the verdict's line.
-const VERDICTS: [(&str, &str, u8, &str); 18] = [
+// What stands in a report, what stands in its place, the status, and the verdict's line. Nothing is changed where the first is empty.
+pub(crate) type Change = (&'static str, &'static str, u8, &'static str);
+
+const VERDICTS: [Change; 18] = [
     ("East", "East", 0, "lawful\n"),
     ("East\" 15 2", "East\" 15 3", 1, "unlawful zone 1 2 1\n"),
     ("fresh", "idle", 1, "unlawful entry 3\n"),
@@ -101,21 +103,28 @@ fn check_verdict(
 }
 
 /// The verdict on a script's report, where a text stands in the place of another, if that isn't empty.
-pub(crate) fn check_changed(
-    rt: &impl Abort,
-    alloc: Global,
-    (script, report): (&str, &str),
-    old: &str,
-    new: &str,
-    status: u8,
-    line: &str,
-) {
+fn check_changed(rt: &impl Abort, alloc: Global, script: &str, report: &str, change: &Change) {
+    let (old, new, status, line) = *change;
     if old.is_empty() {
         check_verdict(rt, alloc, script, report, status, line);
         return;
     }
     let changed = report.replace(alloc, old, new).ok().expect(rt, "memory");
     check_verdict(rt, alloc, script, changed.as_str(), status, line);
+}
+
+/// The verdicts on a script's report with each of these changes. A script and its report stand in one test each, since the proof
+/// reads a long text again wherever it stands.
+pub(crate) fn check_changes(
+    rt: &impl Abort,
+    alloc: Global,
+    judged: (&str, &str),
+    changes: &[Change],
+) {
+    let (script, report) = judged;
+    for change in changes {
+        check_changed(rt, alloc, script, report, change);
+    }
 }
 
 /// With these words nothing is judged or written, and this line is told.
@@ -133,10 +142,7 @@ fn check_refused(rt: &impl Abort, alloc: Global, given: &[&str], status: u8, lin
 
 #[test]
 fn reports_are_judged(rt: HostRuntime) {
-    let alloc = rt.alloc();
-    for (old, new, status, line) in VERDICTS {
-        check_changed(&rt, alloc, (SCRIPT, REPORT), old, new, status, line);
-    }
+    check_changes(&rt, rt.alloc(), (SCRIPT, REPORT), &VERDICTS);
 }
 
 #[test]

@@ -1,6 +1,5 @@
 // What is said of reports of statements, lists, sessions, blends and faults. The reports are from outside.
-use crate::checks::check_changed;
-use std::process::Abort;
+use crate::checks::{Change, check_changes};
 
 // Two lanes of one extract: the second joins the flight of the first.
 const SHARED: (&str, &str) = (
@@ -304,80 +303,95 @@ null 4 2
 "#,
 );
 
-// The script and its report, what stands in the report, what stands in its place, the status, and the verdict's line.
-const VERDICTS: [((&str, &str), &str, &str, u8, &str); 18] = [
-    (SHARED, "", "", 0, "lawful\n"),
-    (SHARED, "met join 1", "met hit 1", 1, "unlawful entry 3\n"),
-    (
-        SHARED,
-        "flight 1 landed",
-        "flight 1 fallen 2",
-        1,
-        "unlawful entry 7\n",
-    ),
-    (SHARED, "cells 15", "cells 14", 1, "unlawful entry 6\n"),
-    (FALLEN, "", "", 0, "lawful\n"),
-    (FALLEN, "fallen 2", "landed", 1, "unlawful entry 9\n"),
-    (
-        FALLEN,
-        "flight 1 backend",
-        "flight 1 memory",
-        1,
-        "unlawful entry 8\n",
-    ),
-    (
-        FALLEN,
-        "flight 2 link 3",
-        "flight 2 link 2",
-        1,
-        "unlawful entry 11\n",
-    ),
-    (LISTS, "", "", 0, "lawful\n"),
-    (
-        LISTS,
-        "runs 16 calls 34",
-        "runs 16 calls 33",
-        1,
-        "unlawful entry 68\n",
-    ),
-    (
-        LISTS,
-        "flight 17 link 2 fresh",
-        "flight 17 link 1 idle",
-        1,
-        "unlawful entry 69\n",
-    ),
-    (FILTERED, "", "", 0, "lawful\n"),
-    (BLENDED, "", "", 0, "lawful\n"),
-    (
-        BLENDED,
-        "\"West\" 7 1",
-        "\"West\" 7 2",
-        1,
-        "unlawful zone 1 2 1\n",
-    ),
-    (
-        BLENDED,
-        "group 1 group 2",
-        "group 1",
-        1,
-        "unlawful entry 2\n",
-    ),
-    (HALF_FALLEN, "", "", 0, "lawful\n"),
-    (
-        HALF_FALLEN,
-        "zone 1 backend",
-        "zone 1 memory",
-        1,
-        "unlawful zone 1 2 1\n",
-    ),
-    (ALL_ROWS, "", "", 0, "lawful\n"),
-];
+#[test]
+fn a_join_is_judged(rt: HostRuntime) {
+    let changes: [Change; 4] = [
+        ("", "", 0, "lawful\n"),
+        ("met join 1", "met hit 1", 1, "unlawful entry 3\n"),
+        (
+            "flight 1 landed",
+            "flight 1 fallen 2",
+            1,
+            "unlawful entry 7\n",
+        ),
+        ("cells 15", "cells 14", 1, "unlawful entry 6\n"),
+    ];
+    check_changes(&rt, rt.alloc(), SHARED, &changes);
+}
 
 #[test]
-fn outside_reports_are_judged(rt: HostRuntime) {
-    let alloc = rt.alloc();
-    for (judged, old, new, status, line) in VERDICTS {
-        check_changed(&rt, alloc, judged, old, new, status, line);
-    }
+fn a_fallen_flight_is_judged(rt: HostRuntime) {
+    let changes: [Change; 4] = [
+        ("", "", 0, "lawful\n"),
+        ("fallen 2", "landed", 1, "unlawful entry 9\n"),
+        (
+            "flight 1 backend",
+            "flight 1 memory",
+            1,
+            "unlawful entry 8\n",
+        ),
+        (
+            "flight 2 link 3",
+            "flight 2 link 2",
+            1,
+            "unlawful entry 11\n",
+        ),
+    ];
+    check_changes(&rt, rt.alloc(), FALLEN, &changes);
+}
+
+#[test]
+fn lists_on_a_link_are_judged(rt: HostRuntime) {
+    let changes: [Change; 3] = [
+        ("", "", 0, "lawful\n"),
+        (
+            "runs 16 calls 34",
+            "runs 16 calls 33",
+            1,
+            "unlawful entry 68\n",
+        ),
+        (
+            "flight 17 link 2 fresh",
+            "flight 17 link 1 idle",
+            1,
+            "unlawful entry 69\n",
+        ),
+    ];
+    check_changes(&rt, rt.alloc(), LISTS, &changes);
+}
+
+#[test]
+fn a_session_is_judged(rt: HostRuntime) {
+    let changes: [Change; 1] = [("", "", 0, "lawful\n")];
+    check_changes(&rt, rt.alloc(), FILTERED, &changes);
+}
+
+#[test]
+fn a_blend_is_judged(rt: HostRuntime) {
+    let changes: [Change; 3] = [
+        ("", "", 0, "lawful\n"),
+        ("\"West\" 7 1", "\"West\" 7 2", 1, "unlawful zone 1 2 1\n"),
+        ("group 1 group 2", "group 1", 1, "unlawful entry 2\n"),
+    ];
+    check_changes(&rt, rt.alloc(), BLENDED, &changes);
+}
+
+#[test]
+fn a_half_fallen_blend_is_judged(rt: HostRuntime) {
+    let changes: [Change; 2] = [
+        ("", "", 0, "lawful\n"),
+        (
+            "zone 1 backend",
+            "zone 1 memory",
+            1,
+            "unlawful zone 1 2 1\n",
+        ),
+    ];
+    check_changes(&rt, rt.alloc(), HALF_FALLEN, &changes);
+}
+
+#[test]
+fn a_blend_on_no_dimension_is_judged(rt: HostRuntime) {
+    let changes: [Change; 1] = [("", "", 0, "lawful\n")];
+    check_changes(&rt, rt.alloc(), ALL_ROWS, &changes);
 }
