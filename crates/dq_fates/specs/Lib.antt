@@ -1,0 +1,4 @@
+pub mod Dials
+pub mod Ends
+pub mod GoingOn
+pub mod Joins
