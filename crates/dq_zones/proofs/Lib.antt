@@ -1,0 +1,9 @@
+pub mod Done
+pub mod Fits
+pub mod Lists
+pub mod Numbered
+pub mod Ranks
+pub mod Refused
+pub mod Single
+pub mod Slots
+pub mod Whole
