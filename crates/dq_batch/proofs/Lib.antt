@@ -1,0 +1,15 @@
+pub mod Admitted
+pub mod Begins
+pub mod Closes
+pub mod Fetches
+pub mod Flies
+pub mod Groups
+pub mod Journals
+pub mod Keeps
+pub mod Looks
+pub mod Loops
+pub mod Meets
+pub mod Opens
+pub mod Settles
+pub mod Takes
+pub mod Works

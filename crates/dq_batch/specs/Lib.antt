@@ -1,0 +1,9 @@
+pub mod Beginning
+pub mod Courses
+pub mod Fetching
+pub mod Nexts
+pub mod Open
+pub mod Prepared
+pub mod Settling
+pub mod Turns
+pub mod Views
