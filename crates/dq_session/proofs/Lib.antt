@@ -1,0 +1,12 @@
+pub mod Entries
+pub mod Final
+pub mod Kept
+pub mod Limits
+pub mod Places
+pub mod Refused
+pub mod Results
+pub mod Settled
+pub mod Told
+pub mod Turning
+pub mod Worked
+pub mod Works
