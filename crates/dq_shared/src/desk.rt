@@ -30,7 +30,7 @@ pub type WreckList<L> = List<Wreck<L>>;
 pub struct Desk<L: Link> {
     pub(crate) loaded: Arc<Loaded>,
     pub(crate) journal: Journal,
-    // The entries that what is under way may still need.
+    // At least the entries that what is under way may still need.
     pub(crate) owed: u64,
     pub(crate) published: u64,
     // For each source its stamp.
@@ -164,7 +164,7 @@ impl<L: Link> Desk<L> {
         self.journal.push(Entry::End { lane });
     }
 
-    /// The journal and the links, in constant time. It takes no memory.
+    /// The journal and the links, in time linear in the idle links. It takes no memory.
     pub fn into_parts(self) -> Parts<L>
         ensures journal { result.journal.entries ≡ self.journal }
         ensures legal { legal self.loaded self.journal ≡ true }
