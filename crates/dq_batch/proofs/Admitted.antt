@@ -32,8 +32,8 @@ use Rattle.dq_machine.specs.Machine.{after, legal, may_begin, work_admitted, wor
 use Rattle.dq_machine.specs.Owning.{started_behind}
 use Rattle.dq_machine.specs.Publishing.{stamp_in}
 use Rattle.dq_machine.specs.State.{Flown, Publication, State, Work, flight_at, is_free, is_numbered, no_work, none_left, work_of}
-use Rattle.dq_shared.specs.Admissions.{AreHeld, AreStarted, AreStood, IsStarted, StartedOf, StoodOf, may_admit_now, remotes_at}
-use Rattle.dq_shared.specs.Events.{is_there}
+use Rattle.dq_desk.specs.Admissions.{AreHeld, AreStarted, AreStood, IsStarted, StartedOf, StoodOf, may_admit_now, remotes_at}
+use Rattle.dq_desk.specs.Events.{is_there}
 use Rattle.dq_zones.specs.declared.fetch.Fetch.{Fetch}
 use Rattle.dq_batch.specs.Beginning.{all_begun}
 use Rattle.dq_batch.specs.Fetching.{AreFetches, CoversAt, waits_of}

@@ -17,7 +17,7 @@ use Rattle.dq_laws.proofs.Each.{Each}
 use Rattle.dq_machine.specs.Admitting.{joins_of, meets_of, missed, number_in}
 use Rattle.dq_machine.specs.Publishing.{stamp_in}
 use Rattle.dq_machine.specs.State.{Publication, State, flight_at, work_of}
-use Rattle.dq_shared.specs.Admissions.{AreHeld, IsHeld, IsShare}
+use Rattle.dq_desk.specs.Admissions.{AreHeld, IsHeld, IsShare}
 use Rattle.dq_batch.specs.Beginning.{all_begun, handed, shared}
 use Rattle.dq_batch.specs.Fetching.{AreFetches, CoversAt, IsFetch, wait_of, waits_of}
 use Rattle.dq_batch.proofs.Fetches.{IsThere}

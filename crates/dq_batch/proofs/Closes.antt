@@ -12,7 +12,7 @@ use Rattle.dq_base.specs.declared.query.Query.{Query}
 use Rattle.dq_extract.specs.Loads.{LoadedFiles}
 use Rattle.dq_fates.proofs.GoingOn.{entries-append}
 use Rattle.dq_fates.proofs.Rows.{rows_stand}
-use Rattle.dq_journal.specs.Right.{AreRefused, entries_of}
+use Rattle.dq_journal.specs.Steps.{AreRefused, entries_of}
 use Rattle.dq_journal.specs.Standing.{Rows, stand}
 use Rattle.dq_journal.specs.declared.entry.Entry.{Entry}
 use Rattle.dq_journal.specs.declared.entry.Entry.TheVariants.{Admit}
@@ -25,7 +25,7 @@ use Rattle.dq_machine.specs.Preparing.{canons_of, remotes_of}
 use Rattle.dq_machine.specs.Publishing.{rows_in}
 use Rattle.dq_machine.specs.Right.{AreOutcomes}
 use Rattle.dq_machine.specs.State.{Publication, State, is_free, none_left, work_of}
-use Rattle.dq_shared.specs.Admissions.{StartedOf}
+use Rattle.dq_desk.specs.Admissions.{StartedOf}
 use Rattle.dq_zones.specs.Answering as Answering
 use Rattle.dq_zones.specs.Answering.{FitZones, IsBatch, origins_of}
 use Rattle.dq_zones.proofs.Fits.{fits}

@@ -20,7 +20,7 @@ use Rattle.dq_machine.specs.Machine.{after, legal}
 use Rattle.dq_machine.specs.Owning.{started_behind}
 use Rattle.dq_machine.specs.Publishing.{stamp_in}
 use Rattle.dq_machine.specs.State.{New, Publication, State, flight_at, is_first, work_of}
-use Rattle.dq_shared.specs.Admissions.{StartedOf}
+use Rattle.dq_desk.specs.Admissions.{StartedOf}
 use Rattle.dq_zones.specs.declared.fetch.Fetch.{Fetch}
 use Rattle.dq_batch.specs.Courses.{HasMoved, Moves}
 use Rattle.dq_batch.specs.Nexts.{CanBegin, IsNext}

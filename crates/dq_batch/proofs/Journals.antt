@@ -6,7 +6,7 @@ use Rattle.std.specs.Prelude.{Option, Some, None, nat_eq, slice_get, ifâ—Œthenâ—
 use Rattle.dq_base.specs.Scripts.{numbered}
 use Rattle.dq_extract.specs.Loads.{LoadedFiles}
 use Rattle.dq_fates.proofs.Rows.{rows_since, rows_stand}
-use Rattle.dq_journal.specs.Right.{is_end, step_in}
+use Rattle.dq_journal.specs.Steps.{is_end, step_in}
 use Rattle.dq_journal.specs.declared.entry.Entry.{Entry}
 use Rattle.dq_journal.specs.declared.entry.Entry.TheVariants.{Publish, Admit, Lease, Give, Lose, Land, Fall, Take, End}
 use Rattle.dq_laws.specs.Settled.{brings}

@@ -27,9 +27,9 @@ use Rattle.dq_machine.specs.Owning.{started_behind}
 use Rattle.dq_machine.specs.Publishing.{rows_at, rows_in, stamp_in}
 use Rattle.dq_machine.specs.State.{New, Flown, Joined, Publication, State, Work, flight_at, is_first, none_left, work_of}
 use Rattle.dq_machine.specs.Taking.{is_first_join, let_go, own_flight, waits_at, waits_for, work_taken}
-use Rattle.dq_shared.specs.Admissions.{StartedOf}
-use Rattle.dq_shared.specs.Events.{LooksAs, is_there, looks, may_look_now}
-use Rattle.dq_shared.specs.declared.taking.Taken.TheVariants as taken
+use Rattle.dq_desk.specs.Admissions.{StartedOf}
+use Rattle.dq_desk.specs.Events.{LooksAs, is_there, looks, may_look_now}
+use Rattle.dq_desk.specs.declared.taking.Taken.TheVariants as taken
 use Rattle.dq_zones.specs.declared.fetch.Fetch.{Fetch}
 use Rattle.dq_zones.specs.declared.fetch.Fetch.TheVariants as fetch
 use Rattle.dq_batch.specs.Beginning.{shared}
@@ -130,7 +130,7 @@ module _ {L : Type 0} (l : LoadedFiles) (old : List Entry) (o : Open L) (h : IsO
 
   -- the flight is running
 
-  pub look_waits : (new : List Entry) → new ≡ old → LooksAs (after l old) (flight_at (after l old) flight) taken.Running → HasWaited l o old new o
+  pub look_waits : (new : List Entry) → new ≡ old → LooksAs (after l old) (flight_at (after l old) flight) taken.Running → HasWaited l o old new o flight
   look_waits new is told =
       let s = after l old in
       let w : Work = work_of s o.lane in
@@ -141,6 +141,7 @@ module _ {L : Type 0} (l : LoadedFiles) (old : List Entry) (o : Open L) (h : IsO
         is = refl;
         batch = record { held = rw is h; seen = seen_free new o.current free };
         waits = and_both (none_left w.own) (waits_at s w.joins) empty there;
+        first = first_joined;
       }
 
   no_own : (own : Option ℕ) (q : Query) (x : Fetch) (mine : List ℕ) → IsFetch old (after l old) o.lane (versions_at l old o.place) own q x → StillOwn mine x

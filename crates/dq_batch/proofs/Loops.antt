@@ -8,7 +8,7 @@ use Rattle.dq_cache.specs.declared.entry.Found.{Found}
 use Rattle.dq_extract.specs.Loads.{LoadedFiles}
 use Rattle.dq_journal.specs.declared.entry.Entry.{Entry}
 use Rattle.dq_journal.specs.declared.entry.Met.{Met}
-use Rattle.dq_shared.specs.Admissions.{StartedOf}
+use Rattle.dq_desk.specs.Admissions.{StartedOf}
 use Rattle.dq_zones.specs.declared.fetch.Fetch.{Fetch}
 use Rattle.dq_batch.specs.Beginning.{all_begun, begun, begun_at}
 use Rattle.dq_batch.specs.Nexts.{CanBegin, CanBeginWith, IsNext, beginning}

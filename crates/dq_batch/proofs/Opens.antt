@@ -10,7 +10,7 @@ use Rattle.dq_extract.specs.Loads.{LoadedFiles}
 use Rattle.dq_fates.proofs.GoingOn.{goes_on_more}
 use Rattle.dq_fates.proofs.Takes.{takes_stay}
 use Rattle.dq_fates.specs.GoingOn.{GoesOn}
-use Rattle.dq_journal.specs.Right.{entries_of}
+use Rattle.dq_journal.specs.Steps.{entries_of}
 use Rattle.dq_journal.specs.declared.entry.Entry.{Entry}
 use Rattle.dq_journal.specs.declared.entry.Entry.TheVariants.{Admit}
 use Rattle.dq_laws.proofs.Apart.{idle_stays}
@@ -23,7 +23,7 @@ use Rattle.dq_machine.specs.Machine.{after, legal}
 use Rattle.dq_machine.specs.Owning.{started_behind}
 use Rattle.dq_machine.specs.Publishing.{stamp_in}
 use Rattle.dq_machine.specs.State.{Publication, State, flight_at, work_of}
-use Rattle.dq_shared.specs.Admissions.{AreStood, StartedOf}
+use Rattle.dq_desk.specs.Admissions.{AreStood, StartedOf}
 use Rattle.dq_zones.specs.declared.fetch.Fetch.{Fetch}
 use Rattle.dq_zones.specs.declared.fetch.Fetch.TheVariants as fetch
 use Rattle.dq_batch.specs.Fetching.{AreFetches, IsFetch, waits_of}

@@ -21,7 +21,7 @@ use Rattle.dq_machine.specs.Machine.{after, legal}
 use Rattle.dq_machine.specs.Owning.{Fate, Answered, Wanting, fate}
 use Rattle.dq_machine.specs.Publishing.{rows_at, rows_in, stamp_in}
 use Rattle.dq_machine.specs.State.{Flown, Publication, flight_at, is_first, work_of}
-use Rattle.dq_shared.specs.Events.{IsAnswer}
+use Rattle.dq_desk.specs.Events.{IsAnswer}
 use Rattle.dq_zones.specs.declared.fetch.Fetch.{Fetch}
 use Rattle.dq_zones.specs.declared.fetch.Fetch.TheVariants as fetch
 use Rattle.dq_batch.specs.Fetching.{AreFetches, CoversAt, HasNotFailed, IsFetch, IsWait, wait_of, waits_of}

@@ -20,7 +20,7 @@ use Rattle.dq_machine.specs.Machine.{after}
 use Rattle.dq_machine.specs.Preparing.{canons_of, is_valid, remote_among, remotes_of}
 use Rattle.dq_machine.specs.Publishing.{rows_at}
 use Rattle.dq_machine.specs.State.{Publication, flight_at, work_of}
-use Rattle.dq_shared.specs.Admissions.{AreStood, IsStood, StartedOf, StoodOf}
+use Rattle.dq_desk.specs.Admissions.{AreStood, IsStood, StartedOf, StoodOf}
 use Rattle.dq_trial.specs.Links.{IsNamed}
 use Rattle.dq_batch.specs.Open.{AsksFor, IsBatch, IsOpen, IsToCome, OwnIs, versions_at, zones_at}
 use Rattle.dq_batch.specs.declared.open.Current.{Current}

@@ -6,7 +6,7 @@ use Rattle.dq_extract.specs.Loads.{LoadedFiles}
 use Rattle.dq_journal.specs.declared.entry.Entry.{Entry}
 use Rattle.dq_machine.specs.Machine.{after}
 use Rattle.dq_machine.specs.State.{New, is_first, work_of}
-use Rattle.dq_shared.specs.Admissions.{StartedOf}
+use Rattle.dq_desk.specs.Admissions.{StartedOf}
 use Rattle.dq_batch.specs.declared.open.Current.{Current}
 use Rattle.dq_batch.specs.declared.open.Current.TheVariants as current
 

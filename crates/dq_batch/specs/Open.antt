@@ -18,7 +18,7 @@ use Rattle.dq_machine.specs.Owning.{started_behind}
 use Rattle.dq_machine.specs.Preparing.{remotes_of}
 use Rattle.dq_machine.specs.Publishing.{stamp_in}
 use Rattle.dq_machine.specs.State.{Publication, State, flight_at, work_of}
-use Rattle.dq_shared.specs.Admissions.{AreStood, IsStood, StartedOf}
+use Rattle.dq_desk.specs.Admissions.{AreStood, IsStood, StartedOf}
 use Rattle.dq_batch.specs.Fetching.{AreFetches, waits_of}
 use Rattle.dq_batch.specs.Prepared.{IsPreparedFor}
 use Rattle.dq_batch.specs.Settling.{none_waits}

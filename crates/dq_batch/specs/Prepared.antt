@@ -5,7 +5,7 @@ use Rattle.dq_base.specs.declared.query.Query.{Query}
 use Rattle.dq_graph.specs.declared.prepared.Prepared.{Prepared}
 use Rattle.dq_machine.specs.Owning.{valid_places}
 use Rattle.dq_machine.specs.Preparing.{remotes_of}
-use Rattle.dq_shared.specs.Admissions.{IsPrepared}
+use Rattle.dq_desk.specs.Admissions.{IsPrepared}
 use Rattle.dq_batch.specs.declared.preparation.Preparation.{Preparation}
 
 -- the numbers of the valid zones count from 1

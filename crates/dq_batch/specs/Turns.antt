@@ -6,7 +6,7 @@ use Rattle.dq_journal.specs.declared.entry.Entry.TheVariants.{Admit}
 use Rattle.dq_machine.specs.Admitting.{admission_of}
 use Rattle.dq_machine.specs.Machine.{after}
 use Rattle.dq_machine.specs.State.{work_of}
-use Rattle.dq_machine.specs.Taking.{waits}
+use Rattle.dq_machine.specs.Taking.{is_first_join, waits}
 use Rattle.dq_batch.specs.Courses.{Moves}
 use Rattle.dq_batch.specs.Views.{BatchOf}
 use Rattle.dq_batch.specs.declared.open.Turned.{Turned}
@@ -37,12 +37,13 @@ pub record HasGone (v w : BatchOf) (old new : List Entry) : Type 0 where
   pub seen : w.seen ≡ new
   pub untold : w.untold ≡ false
 
--- it waits, as the machine has it, and nothing changed
-pub record HasStood (v w : BatchOf) (old new : List Entry) : Type 0 where
+-- it waits for this flight, as the machine has it, and nothing changed
+pub record HasStood (v w : BatchOf) (old new : List Entry) (flight : ℕ) : Type 0 where
   pub journal : new ≡ old
   pub waits : waits (after v.loaded old) (work_of (after v.loaded old) v.lane) ≡ true
+  pub first : is_first_join (work_of (after v.loaded old) v.lane).joins flight ≡ true
   pub is : w ≡ record v { seen = new }
 
 abbrev pub IsTurned : BatchOf → BatchOf → List Entry → List Entry → Turned → Type 0
 IsTurned v w old new turned.Moved = HasGone v w old new
-IsTurned v w old new (turned.Waits flight) = HasStood v w old new
+IsTurned v w old new (turned.Waits flight) = HasStood v w old new flight

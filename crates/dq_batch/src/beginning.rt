@@ -3,8 +3,8 @@ ghost use Rattle.dq_batch.specs.Beginning.{all_begun, begun, begun_at, handed, s
 
 use dq_base::{Canon, Table};
 use dq_cache::Found;
+use dq_desk::Helds;
 use dq_journal::{Meets, Met};
-use dq_shared::Helds;
 use dq_zones::{Fetch, Fetches};
 use std::mem::replace;
 use std::sync::Arc;

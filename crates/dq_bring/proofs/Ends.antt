@@ -18,8 +18,8 @@ use Rattle.dq_machine.specs.Landing.{ended, has_run, may_fall, over}
 use Rattle.dq_machine.specs.Losses.{LostFew}
 use Rattle.dq_machine.specs.Machine.{after, allowed, legal}
 use Rattle.dq_machine.specs.State.{Course as Way, Fallen, Flown, Landed, Phase as Course, New, Leased, Given, Publication, State, Work, flight_at, is_numbered, work_of}
-use Rattle.dq_shared.proofs.Pushed.{legal-push}
-use Rattle.dq_shared.specs.Events.{IsAnswer, IsBody, may_land_now}
+use Rattle.dq_desk.proofs.Pushed.{legal-push}
+use Rattle.dq_desk.specs.Events.{IsAnswer, IsBody, may_land_now}
 use Rattle.dq_trial.specs.Links.{LinkTells}
 use Rattle.dq_bring.specs.Flights.{IsBringing, KeyAt, standing_at}
 use Rattle.dq_bring.specs.Phases.{IsFalling, IsLanding, IsNew, IsReady, IsUndialled, Standing, is_untold}

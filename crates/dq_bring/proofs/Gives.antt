@@ -14,8 +14,8 @@ use Rattle.dq_machine.proofs.Reached.{and_both}
 use Rattle.dq_machine.specs.Leasing.{given_as, lost as lost_phase, lost_as, may_give, may_lose, reach}
 use Rattle.dq_machine.specs.Machine.{after, allowed}
 use Rattle.dq_machine.specs.State.{Flown, LinkOf, Phase as Course, New, Leased, Given, State, Work, flight_at, work_of}
-use Rattle.dq_shared.proofs.Pushed.{legal-push}
-use Rattle.dq_shared.specs.Links.{IsLost as IsLostAt, IsMirror, lose_entry}
+use Rattle.dq_desk.proofs.Pushed.{legal-push}
+use Rattle.dq_desk.specs.Links.{IsLost as IsLostAt, IsMirror, lose_entry}
 use Rattle.dq_trial.specs.Links.{AreNamed, IsPlanned, LinkTells, RanAs}
 use Rattle.dq_trial.specs.Trying.{Gives, Loses}
 use Rattle.dq_bring.specs.Flights.{IsBringing, standing_at}

@@ -10,8 +10,8 @@ use Rattle.dq_link.specs.Views.{PooledLink}
 use Rattle.dq_machine.specs.Leasing.{fresh_link, leased, may_lease}
 use Rattle.dq_machine.specs.Machine.{after, legal}
 use Rattle.dq_machine.specs.State.{LinkOf, Phase as Course, New, Leased, Given, State, Work, work_of}
-use Rattle.dq_shared.specs.Events.{may_lease_now}
-use Rattle.dq_shared.specs.Links.{IsTop, lease_entry}
+use Rattle.dq_desk.specs.Events.{may_lease_now}
+use Rattle.dq_desk.specs.Links.{IsTop, lease_entry}
 use Rattle.dq_trial.specs.Links.{IsLink, LinkTells}
 use Rattle.dq_bring.specs.Flights.{IsBringing, standing_at}
 use Rattle.dq_bring.specs.Phases.{IsNew, Standing}

@@ -9,7 +9,7 @@ use Rattle.dq_laws.specs.Settled.{IsOver, brings}
 use Rattle.dq_machine.specs.Machine.{after}
 use Rattle.dq_machine.specs.Owning.{Answered, Failed, Wanting, fate}
 use Rattle.dq_machine.specs.State.{New, Work, flight_at, work_of}
-use Rattle.dq_shared.specs.Events.{IsAnswer}
+use Rattle.dq_desk.specs.Events.{IsAnswer}
 use Rattle.dq_trial.specs.Links.{LinkTells}
 use Rattle.dq_bring.specs.Flights.{IsBringing}
 use Rattle.dq_bring.specs.Phases.{is_untold}

@@ -6,11 +6,11 @@ ghost use Rattle.dq_bring.specs.Told.{GivenTo, IsTold};
 use crate::bringing::Bringing;
 use crate::phase::{Answer, Phase};
 use dq_base::Table;
+use dq_desk::{Desk, Leased};
 use dq_extract::Loaded;
 use dq_journal::Cause;
 use dq_laws::calls_are_few;
 use dq_link::{Link, Lost, Pooled};
-use dq_shared::{Desk, Leased};
 use std::sync::Arc;
 
 /// How a flight ended.

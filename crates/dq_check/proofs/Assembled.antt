@@ -9,7 +9,7 @@ use Rattle.dq_base.specs.declared.query.Query.{Query}
 use Rattle.dq_base.specs.declared.script.Step.{Step}
 use Rattle.dq_base.specs.declared.script.Step.TheVariants as step
 use Rattle.dq_extract.specs.Loads.{LoadedFiles}
-use Rattle.dq_journal.specs.Right.{AreRefused, done_from, entries_of, step_in, unless_refused}
+use Rattle.dq_journal.specs.Steps.{AreRefused, done_from, entries_of, step_in, unless_refused}
 use Rattle.dq_journal.specs.Shown.{AreLanesShown, AreShown, AreStepsShown, FirstIs, IsBlend, IsSame, IsStepShown, Joint, joint_at}
 use Rattle.dq_journal.specs.Standing.{Rows, stand}
 use Rattle.dq_journal.specs.declared.entry.Entry.{Entry}

@@ -6,7 +6,7 @@ use Rattle.dq_base.specs.Headings.{Heading}
 use Rattle.dq_base.specs.Validity.{invalid_by}
 use Rattle.dq_base.specs.declared.invalid.Invalid.{Invalid}
 use Rattle.dq_base.specs.declared.query.Query.{Query}
-use Rattle.dq_journal.specs.Right.{AreRefused, IsRefused}
+use Rattle.dq_journal.specs.Steps.{AreRefused, IsRefused}
 use Rattle.dq_journal.specs.Standing.{Rows}
 use Rattle.dq_journal.specs.declared.entry.Entry.{Entry}
 use Rattle.dq_journal.specs.declared.result.ZoneResult.{ZoneResult}

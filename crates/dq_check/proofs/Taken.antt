@@ -6,7 +6,7 @@ use Rattle.std.proofs.Math.ListN.{drop_of_length-le}
 use Rattle.std.proofs.Math.Seq.{drop-append_seam}
 use Rattle.std.proofs.lemmas.Option.{slice_get_cases}
 use Rattle.dq_journal.specs.Journals.{lane_of}
-use Rattle.dq_journal.specs.Right.{entries_of}
+use Rattle.dq_journal.specs.Steps.{entries_of}
 use Rattle.dq_journal.specs.declared.entry.Entry.{Entry}
 use Rattle.dq_machine.specs.Owning.{started_behind, started_in}
 use Rattle.dq_check.specs.Takes.{TakesOf, behind_count, behind_of}

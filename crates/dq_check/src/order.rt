@@ -4,8 +4,8 @@ ghost use Rattle.std.specs.Prelude.{◌≡◌, ◌++◌, ◌≤◌, IfOk, OnOk, 
 ghost use Rattle.std.specs.Cmp.Lexicographic.{pointwise};
 ghost use Rattle.dq_base.specs.Scripts.{numbered};
 ghost use Rattle.dq_journal.specs.Journals as journals;
-ghost use Rattle.dq_journal.specs.Right as named;
-ghost use Rattle.dq_journal.specs.Right.{done_from, entries_of, steps_named};
+ghost use Rattle.dq_journal.specs.Steps as named;
+ghost use Rattle.dq_journal.specs.Steps.{done_from, entries_of, steps_named};
 ghost use Rattle.dq_machine.specs.Order as specified;
 ghost use Rattle.dq_machine.specs.State.{none_left};
 

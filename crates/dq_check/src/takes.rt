@@ -1,6 +1,6 @@
 ghost use Rattle.std.specs.List.{flat_map};
 ghost use Rattle.std.specs.Prelude.{◌≡◌, [], ◌∷◌, ◌++◌, IfOk, OnOk, length};
-ghost use Rattle.dq_journal.specs.Right.{entries_of};
+ghost use Rattle.dq_journal.specs.Steps.{entries_of};
 ghost use Rattle.dq_machine.specs.Owning.{started_in};
 ghost use Rattle.dq_check.specs.Takes.{AreTakes, behind_count, behind_of};
 

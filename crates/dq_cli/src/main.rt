@@ -1,6 +1,7 @@
-//! The program `dashboards`: its words, files and standard output are real.
+//! The program `dashboards`: its words, files and standard output are real, its back end is in memory.
 #![tactic(auto)]
 
+use dq_backend::InOffice;
 use dq_base::{List, Text, Texts};
 use dq_outside::{DiskFolder, OutSink};
 use dq_top::{Checked, Fault, Outcome, check, rehearse, tell};
@@ -53,7 +54,14 @@ fn serve(rt: &HostRuntime, words: &Texts) -> (u8, Option<Fault>) {
         let Checked { status, told, .. } = check(rt.alloc(), words, &mut folder, &mut sink);
         return (status, told);
     }
-    let Outcome { status, told, .. } = rehearse(rt.alloc(), words, &mut folder, &mut sink);
+    let mut office = InOffice::new();
+    let Outcome { status, told, .. } = rehearse(
+        rt.alloc(),
+        words,
+        &mut folder,
+        &mut sink,
+        &mut office,
+    );
     (status, told)
 }
 

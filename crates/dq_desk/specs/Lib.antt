@@ -1,10 +1,8 @@
-pub mod Admitting
+pub mod Admissions
+pub mod Events
+pub mod Handed
 pub mod Kept
-pub mod Machine
-pub mod Others
-pub mod Preparing
-pub mod Publishing
-pub mod Refreshing
-pub mod Stamps
-pub mod State
-pub mod Stood
+pub mod Links
+pub mod Plans
+pub mod Roomed
+pub mod Waits

@@ -1,38 +1,54 @@
 ghost use Rattle.std.specs.Arc.{arc_value};
-ghost use Rattle.std.specs.Prelude.{◌≡◌, ◌<◌, [], ◌∷◌, ◌++◌, length, map, slice_get, Some, IfOk, OnOk, OnErr};
-ghost use Rattle.dq_base.specs.Scripts.{step_of};
+ghost use Rattle.std.specs.Prelude.{◌≡◌, [], ◌∷◌, ◌++◌, length, replicate, true, IfOk};
 ghost use Rattle.dq_journal.specs.declared.entry.Entry.{Entry};
-ghost use Rattle.dq_desk.specs.Admitting.{MayAdmit};
-ghost use Rattle.dq_desk.specs.Kept.{no_stand};
-ghost use Rattle.dq_desk.specs.Machine.{after, Legal};
-ghost use Rattle.dq_desk.specs.Preparing.{IsPreparation};
-ghost use Rattle.dq_desk.specs.Publishing.{MayPublish};
-ghost use Rattle.dq_desk.specs.State.{IsFree};
-ghost use Rattle.dq_desk.specs.Stood.{AreStood, AreOf, HaveSources};
+ghost use Rattle.dq_machine.specs.Machine.{after, allowed, legal};
+ghost use Rattle.dq_desk.specs.Links.{AreLinks, AreWrecks, losses};
 
-use crate::prepared::Prepared;
-use crate::refresh::{Refresh, refresh_by_step};
-use crate::stood::{Stood, Stoods};
-use dq_base::{Canon, Canons, Duplicate, List, Memory, Schemas};
-use dq_extract::{Extract, Loaded};
+use crate::roomy::Roomy;
+use crate::stack::Stack;
+use crate::waiting::Waiting;
+use dq_base::{List, Memory};
+use dq_cache::{Clever, Literal};
+use dq_extract::Loaded;
+use dq_flight::Flights;
 use dq_journal::{Entry, Journal};
+use dq_link::{Link, Pooled, Wreck};
+use dq_machine::{Stand, no_stands};
 use std::alloc::Global;
 use std::marker::Model;
 use std::sync::Arc;
 
-/// What was loaded, what stands of each extract, and the journal, which is legal. Contracts see what was loaded and the
-/// journal's entries.
+/// Links that nobody uses.
+pub type PooledList<L> = List<Pooled<L>>;
+
+/// Links that were lost.
+pub type WreckList<L> = List<Wreck<L>>;
+
+/// What the lanes of a run share: what was loaded, what stands of each extract, both caches, the results under way, the links that
+/// nobody uses, those that were lost, and the journal, which is legal. Contracts see what was loaded and the journal's entries.
 #[derive(Drop)]
-pub struct Desk {
-    loaded: Arc<Loaded>,
-    journal: Journal,
-    // The entries that the lanes still need.
-    owed: u64,
-    published: u64,
-    stands: Vec<Stood>,
+pub struct Desk<L: Link> {
+    pub(crate) loaded: Arc<Loaded>,
+    pub(crate) journal: Journal,
+    // At least the entries that what is under way may still need.
+    pub(crate) owed: u64,
+    pub(crate) published: u64,
+    // For each source its stamp.
+    pub(crate) stamps: Vec<u64>,
+    pub(crate) stands: Vec<Stand>,
+    // For each lane the flights for which its zones wait.
+    pub(crate) joins: Vec<Waiting>,
+    pub(crate) clever: Clever,
+    pub(crate) literal: Literal,
+    pub(crate) flights: Flights,
+    pub(crate) started: u64,
+    pub(crate) idle: Stack<Pooled<L>>,
+    // How many links were leased fresh.
+    pub(crate) fresh: u64,
+    pub(crate) wrecks: Roomy<Wreck<L>>,
 }
 
-impl Model for Desk {
+impl<L: Link> Model for Desk<L> {
     ghost use Rattle.std.specs.Arc.{arc_value};
     ghost use Rattle.dq_desk.specs.Kept.{DeskOf, IsDesk};
 
@@ -40,135 +56,107 @@ impl Model for Desk {
 
     ghost view = { λ d. record { loaded = arc_value d.loaded; journal = d.journal.entries } };
 
-    ghost invariant = { λ d. IsDesk (arc_value d.loaded) d.journal.entries (record { spare = d.journal.spare; owed = d.owed; published = d.published; stands = d.stands.items }) };
-}
-
-/// An admission: the place of its entry in the journal, from 1, and for each valid zone what stands of its source there.
-#[derive(Drop)]
-pub struct Admitted {
-    pub place: u64,
-    pub stood: Stoods,
+    ghost invariant = { λ d. IsDesk (record { runs = L.runs; calls = L.calls; mounts = L.mounts; planned = L.planned }) (arc_value d.loaded) d.journal.entries (record {
+      spare = d.journal.spare;
+      owed = d.owed;
+      published = d.published;
+      stamps = d.stamps.items;
+      stands = d.stands.items;
+      joins = d.joins.items;
+      clever = d.clever;
+      literal = d.literal;
+      flights = d.flights;
+      started = d.started;
+      idle = d.idle;
+      fresh = d.fresh;
+      wrecks = d.wrecks;
+    }) };
 }
 
 /// What is left of a desk.
 #[derive(Drop)]
-pub struct Parts {
+pub struct Parts<L: Link> {
     pub journal: Journal,
+    /// The one that was given back last first.
+    pub idle: PooledList<L>,
+    /// In the order in which they were lost.
+    pub wrecks: WreckList<L>,
 }
 
-// Nothing, for each schema.
-fn no_stands(alloc: Global, schemas: &Schemas) -> Result<Vec<Stood>, Memory>
-    ensures { IfOk result (λ stands. stands.items ≡ map no_stand schemas.now) }
+/// The stamp of each source before anything was published.
+fn no_stamps(alloc: Global, count: u64) -> Result<Vec<u64>, Memory>
+    ensures { IfOk result (λ stamps. stamps.items ≡ replicate count 0) }
 {
-    let mut stands = Vec::new(alloc);
-    for schema in schemas.as_slice() {
-        let extract = Extract::empty(alloc, schema.duplicate(alloc)?);
-        stands.push(Stood::new(0, Arc::new(alloc, extract)?))?;
+    let mut stamps = Vec::with_capacity(alloc, count as usize)?;
+    for source in 0..count {
+        let _ = source;
+        stamps.push(0)?;
     }
-    Ok(stands)
+    Ok(stamps)
 }
 
-// What stands of the query's source.
-fn stood_of(stands: &[Stood], canon: &Canon) -> Result<Stood, Memory>
-    requires { canon.now.source < length stands.now }
-    ensures { IfOk result (λ stood. slice_get stands.now canon.now.source ≡ Some stood) }
+/// Nothing to wait for, for each lane.
+fn no_waits(alloc: Global, count: u64) -> Result<Vec<Waiting>, Memory>
+    ensures { IfOk result (λ joins. joins.items ≡ replicate count []) }
 {
-    stands[canon.query().source as usize].share()
-}
-
-// What stands of the queries' sources, in order.
-fn all_stood(alloc: Global, stands: &[Stood], canons: &Canons) -> Result<Stoods, Memory>
-    requires { HaveSources (length stands.now) canons.now }
-    ensures { IfOk result (λ stood. AreOf stands.now canons.now stood) }
-{
-    let mut stood = List::new(alloc);
-    for canon in canons.as_slice() {
-        stood.push(stood_of(stands, canon)?)?;
+    let mut joins = Vec::with_capacity(alloc, count as usize)?;
+    for lane in 0..count {
+        let _ = lane;
+        joins.push(Waiting::new(alloc))?;
     }
-    Ok(stood)
+    Ok(joins)
 }
 
-impl Desk {
-    /// A desk on which nothing has happened. The room for the end of each lane is taken. The cost is linear in the extracts'
-    /// columns.
-    pub fn new(alloc: Global, loaded: Arc<Loaded>) -> Result<Desk, Memory>
+impl<L: Link> Desk<L> {
+    /// A desk on which nothing has happened. The room for the end of each lane, and for a link of each, is taken. The cost is linear
+    /// in the lanes and the extracts' columns.
+    pub fn new(alloc: Global, loaded: Arc<Loaded>) -> Result<Desk<L>, Memory>
         ensures loaded { IfOk result (λ desk. desk.loaded ≡ arc_value loaded) }
         ensures journal { IfOk result (λ desk. desk.journal ≡ []) }
     {
         let owed = loaded.script().lanes.len();
         let mut journal = Journal::new(alloc);
         journal.reserve(owed)?;
+        let mut flights = Flights::new(alloc);
+        flights.reserve(owed)?;
+        let mut wrecks = Roomy::new(alloc);
+        wrecks.reserve(owed)?;
+        let mut idle = Stack::new(alloc);
+        idle.reserve(owed)?;
+        let stamps = no_stamps(alloc, loaded.script().schemas.len())?;
         let stands = no_stands(alloc, &loaded.script().schemas)?;
+        let joins = no_waits(alloc, owed)?;
+        let clever = Clever::new(alloc, loaded.script().clever)?;
+        let literal = Literal::new(alloc, loaded.script().literal)?;
         Ok(Desk {
             loaded,
             journal,
             owed,
             published: 0,
+            stamps,
             stands,
+            joins,
+            clever,
+            literal,
+            flights,
+            started: 0,
+            idle,
+            fresh: 0,
+            wrecks,
         })
     }
 
     /// The journal, in constant time.
     pub fn journal(&self) -> &Journal
         ensures journal { result.now.entries ≡ self.now.journal }
-        ensures legal { Legal self.now.loaded self.now.journal }
+        ensures legal { legal self.now.loaded self.now.journal ≡ true }
     {
         &self.journal
     }
 
-    /// A publish step: its file's rows come in place of those that stand of its source, or behind them. Answers the place of
-    /// its entry, from 1. Rows are shared, not copied: the cost is linear in the number of segments that stand of the source. An
-    /// `Err` leaves the desk as it was.
-    pub fn publish(&mut self, alloc: Global, lane: u32, step: u32) -> Result<u64, Memory>
-        requires { MayPublish self.old.loaded (after self.old.loaded self.old.journal) lane step }
-        ensures entry { OnOk result (self.new.journal ≡ self.old.journal ++ Entry.Publish lane step ∷ []) }
-        ensures place { IfOk result (λ place. place ≡ length self.new.journal) }
-        ensures refused { OnErr result (self.new.journal ≡ self.old.journal) }
-        ensures loaded { self.new.loaded ≡ self.old.loaded }
-    {
-        let Refresh { source, extract } = refresh_by_step(
-            alloc,
-            &self.loaded,
-            self.stands.as_slice(),
-            lane,
-            step,
-        )?;
-        self.journal.reserve(self.owed + 1)?;
-        let place = self.journal.len() + 1;
-        self.published += 1;
-        self.stands[source as usize] = Stood::new(self.published, extract);
-        self.journal.push(Entry::Publish { lane, step });
-        Ok(place)
-    }
-
-    /// A batch, of which this is the preparation. Answers what stands of each valid zone's source at the place of its entry.
-    /// Extracts are shared, not copied: the cost is linear in the number of valid zones. An `Err` leaves the desk as it was.
-    pub fn admit(
-        &mut self,
-        alloc: Global,
-        lane: u32,
-        step: u32,
-        prepared: &Prepared,
-    ) -> Result<Admitted, Memory>
-        requires may { MayAdmit self.old.loaded (after self.old.loaded self.old.journal) lane step }
-        requires prepared { IsPreparation self.old.loaded.script.schemas (step_of self.old.loaded.script.lanes lane step) prepared.now }
-        ensures entry { OnOk result (self.new.journal ≡ self.old.journal ++ Entry.Admit lane step [] ∷ []) }
-        ensures place { IfOk result (λ admitted. admitted.place ≡ length self.new.journal) }
-        ensures stood { IfOk result (λ admitted. AreStood self.new.loaded self.new.journal admitted.place prepared.now.canons admitted.stood) }
-        ensures refused { OnErr result (self.new.journal ≡ self.old.journal) }
-        ensures loaded { self.new.loaded ≡ self.old.loaded }
-    {
-        let stood = all_stood(alloc, self.stands.as_slice(), prepared.canons())?;
-        self.journal.reserve(self.owed + 1)?;
-        let place = self.journal.len() + 1;
-        let met = List::new(alloc);
-        self.journal.push(Entry::Admit { lane, step, met });
-        Ok(Admitted { place, stood })
-    }
-
     /// The end of a lane, in constant time. It takes no memory, as the room for it was taken at the start.
     pub fn end(&mut self, lane: u32)
-        requires { IsFree (after self.old.loaded self.old.journal) lane }
+        requires { allowed self.old.loaded (after self.old.loaded self.old.journal) (Entry.End lane) ≡ true }
         ensures entry { self.new.journal ≡ self.old.journal ++ Entry.End lane ∷ [] }
         ensures loaded { self.new.loaded ≡ self.old.loaded }
     {
@@ -176,18 +164,33 @@ impl Desk {
         self.journal.push(Entry::End { lane });
     }
 
-    /// The journal, in constant time. It takes no memory.
-    pub fn into_parts(self) -> Parts
+    /// The journal and the links, in time linear in the idle links. It takes no memory.
+    pub fn into_parts(self) -> Parts<L>
         ensures journal { result.journal.entries ≡ self.journal }
-        ensures legal { Legal self.loaded self.journal }
+        ensures legal { legal self.loaded self.journal ≡ true }
+        ensures idle { AreLinks (record { runs = L.runs; calls = L.calls; mounts = L.mounts; planned = L.planned }) self.loaded (after self.loaded self.journal).versions (after self.loaded self.journal).links.idle result.idle }
+        ensures wrecks { AreWrecks (record { runs = L.runs; calls = L.calls; mounts = L.mounts; planned = L.planned }) self.loaded.script.fails (losses self.journal) result.wrecks }
     {
         let Desk {
             loaded: _,
             journal,
             owed: _,
             published: _,
+            stamps: _,
             stands: _,
+            joins: _,
+            clever: _,
+            literal: _,
+            flights: _,
+            started: _,
+            idle,
+            fresh: _,
+            wrecks,
         } = self;
-        Parts { journal }
+        Parts {
+            journal,
+            idle: idle.into_list(),
+            wrecks: wrecks.into_list(),
+        }
     }
 }

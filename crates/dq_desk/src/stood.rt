@@ -1,7 +1,7 @@
 ghost use Rattle.std.specs.Arc.{arc_value};
-ghost use Rattle.std.specs.Prelude.{◌≡◌, IfOk};
+ghost use Rattle.std.specs.Prelude.{◌≡◌};
 
-use dq_base::{List, Memory};
+use dq_base::{Canon, List, Numbers};
 use dq_extract::Extract;
 use std::marker::Model;
 use std::sync::Arc;
@@ -16,7 +16,7 @@ pub struct Stood {
 
 impl Model for Stood {
     ghost use Rattle.std.specs.Arc.{arc_value};
-    ghost use Rattle.dq_desk.specs.Stood.{StoodOf};
+    ghost use Rattle.dq_desk.specs.Admissions.{StoodOf};
 
     ghost Value = { StoodOf };
 
@@ -44,18 +44,59 @@ impl Stood {
     {
         &self.extract
     }
+}
 
-    /// The same again, in constant time: its rows aren't copied.
-    pub fn share(&self) -> Result<Stood, Memory>
-        ensures { IfOk result (λ more. more ≡ self.now) }
+/// What stands of the sources of a batch's remote queries, in order.
+pub type Stoods = List<Stood>;
+
+/// A flight that an admission started: its number, its key, what stands of the key's source, and the places of its group's members
+/// among the queries that missed, from 0.
+#[derive(Drop)]
+pub struct Started {
+    pub flight: u64,
+    pub key: Arc<Canon>,
+    pub stood: Stood,
+    pub members: Numbers,
+}
+
+impl Model for Started {
+    ghost use Rattle.std.specs.Arc.{arc_value};
+    ghost use Rattle.dq_desk.specs.Admissions.{StartedOf};
+
+    ghost Value = { StartedOf };
+
+    ghost view = { λ s. record { flight = s.flight; key = arc_value s.key; stood = s.stood; members = s.members } };
+}
+
+impl Started {
+    /// The flight's number.
+    pub fn flight(&self) -> u64
+        ensures { result ≡ self.now.flight }
     {
-        let extract = Arc::try_clone(&self.extract)?;
-        Ok(Stood {
-            stamp: self.stamp,
-            extract,
-        })
+        self.flight
+    }
+
+    /// Its key.
+    pub fn key(&self) -> &Arc<Canon>
+        ensures { arc_value result.now ≡ self.now.key }
+    {
+        &self.key
+    }
+
+    /// What stands of its key's source.
+    pub fn stood(&self) -> &Stood
+        ensures { result.now ≡ self.now.stood }
+    {
+        &self.stood
+    }
+
+    /// The places of its group's members among the queries that missed, from 0.
+    pub fn members(&self) -> &Numbers
+        ensures { result.now ≡ self.now.members }
+    {
+        &self.members
     }
 }
 
-/// What stands of the sources of a batch's valid zones, in order.
-pub type Stoods = List<Stood>;
+/// The flights that an admission started, in the order of their numbers.
+pub type Starteds = List<Started>;

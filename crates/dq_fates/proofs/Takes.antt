@@ -6,7 +6,7 @@ use Rattle.std.proofs.lemmas.List.{drop-append-le}
 use Rattle.std.specs.List.{flat_map}
 use Rattle.std.specs.Prelude.{Option, Some, None}
 use Rattle.dq_journal.specs.Journals.{lane_of}
-use Rattle.dq_journal.specs.Right.{entries_of}
+use Rattle.dq_journal.specs.Steps.{entries_of}
 use Rattle.dq_journal.specs.declared.entry.Entry.{Entry}
 use Rattle.dq_journal.specs.declared.entry.Met.{Met}
 use Rattle.dq_journal.specs.declared.entry.Met.TheVariants as met

@@ -1,6 +1,6 @@
 -- Journals that go on while a lane is idle.
 use Rattle.std.specs.Prelude.{◌≡◌, ℕ, List, [], ◌++◌}
-use Rattle.dq_journal.specs.Right.{entries_of}
+use Rattle.dq_journal.specs.Steps.{entries_of}
 use Rattle.dq_journal.specs.declared.entry.Entry.{Entry}
 
 -- the journal goes on, without an entry of the lane

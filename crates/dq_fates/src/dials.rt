@@ -1,6 +1,6 @@
 ghost use Rattle.std.specs.Prelude.{◌≡◌, ◌≤◌, ◌++◌, [], length};
 ghost use Rattle.dq_fates.specs.Dials.{lost_dials};
-ghost use Rattle.dq_journal.specs.Right.{entries_of};
+ghost use Rattle.dq_journal.specs.Steps.{entries_of};
 
 use dq_journal::Entry;
 

@@ -1,4 +1,4 @@
 pub mod Journals
-pub mod Right
 pub mod Shown
 pub mod Standing
+pub mod Steps

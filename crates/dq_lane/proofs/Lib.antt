@@ -1,10 +1,12 @@
-pub mod Answered
 pub mod Entries
+pub mod Final
 pub mod Kept
 pub mod Limits
-pub mod Others
-pub mod Prepared
+pub mod Places
 pub mod Refused
 pub mod Results
 pub mod Settled
+pub mod Told
+pub mod Turning
 pub mod Worked
+pub mod Works

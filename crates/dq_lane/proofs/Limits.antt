@@ -1,24 +1,21 @@
 -- A lane's steps, and their bounds.
-use Rattle.std.proofs.Common.{◌≡◌, ◌≢◌, ℕ, zero, suc, ◌+◌, ◌-◌, ◌≤◌, Bool, true, false, eqb, leb, ◌&&◌, List, [], ◌∷◌, length, slice_get, Option, Some, None, refl, sym, ◌∙◌, arith}
+use Rattle.std.proofs.Common.{◌≡◌, ◌≢◌, ℕ, zero, suc, ◌+◌, ◌-◌, ◌<◌, ◌≤◌, Bool, true, false, eqb, leb, ◌&&◌, List, [], ◌∷◌, length, slice_get, Option, Some, None, refl, ap, sym, ◌∙◌, arith}
 use Rattle.std.proofs.lemmas.Bool.{leb-true}
 use Rattle.std.proofs.lemmas.Grind.{common_steps}
 use Rattle.std.specs.List.{list_all}
-use Rattle.std.specs.Prelude.{option_and_then, unwrap_or}
+use Rattle.std.specs.Prelude.{option_and_then, unwrap_or, is_none}
 use Rattle.dq_base.specs.Limits.{most_steps, most_zones}
-use Rattle.dq_base.specs.Scripts.{numbered, step_of, step_fits, lane_fits}
+use Rattle.dq_base.specs.Scripts.{is_lane, numbered, step_of, step_fits, lane_fits, zones_of}
 use Rattle.dq_base.specs.declared.query.Query.{Query}
 use Rattle.dq_base.specs.declared.script.Step.{Step}
 use Rattle.dq_base.specs.declared.script.Step.TheVariants as step
 use Rattle.dq_extract.specs.Loads.{LoadedFiles, IsLoaded}
-use Rattle.dq_desk.specs.Admitting.{IsBatch}
-use Rattle.dq_desk.specs.Publishing.{IsPublish}
+use Rattle.dq_machine.specs.Admitting.{is_batch}
+use Rattle.dq_machine.specs.Publishing.{is_publish}
 use Rattle.dq_lane.specs.View.{steps_of}
 
 eqb_other : (x y : ℕ) → x ≢ y → eqb x y ≡ false
 eqb_other x y ne = grind (arith, common_steps)
-
-pub eqb_same : (x : ℕ) → eqb x x ≡ true
-eqb_same x = grind (arith, common_steps)
 
 pub numbered_next : {X : Type 0} (items : List X) (i : ℕ) → numbered items (i + 1) ≡ slice_get items i
 numbered_next items i = let n : i + 1 - 1 ≡ i = omega arith in rw (eqb_other (i + 1) 0 (omega arith), n) refl
@@ -30,21 +27,29 @@ numbered_in (Some steps) i = numbered_next steps i
 pub step_next : (l : LoadedFiles) (lane i : ℕ) → step_of l.script.lanes lane (i + 1) ≡ slice_get (steps_of l lane) i
 step_next l lane i = numbered_in (numbered l.script.lanes lane) i
 
+-- the next step
+pub next_is : (l : LoadedFiles) (lane taken : ℕ) (o : Option Step) → step_of l.script.lanes lane (taken + 1) ≡ o → slice_get (steps_of l lane) taken ≡ o
+next_is l lane taken o e = sym (step_next l lane taken) ∙ e
+
 -- kinds
 
-pub publish_is : (o : Option Step) → IsPublish o → (source : ℕ) × (how : _) × (file : _) × (o ≡ Some (step.Publish source how file))
-publish_is None h = absurd h
-publish_is (Some (step.Publish source how file)) h = (source, how, file, refl)
-publish_is (Some (step.Batch zones)) h = absurd h
+pub step_is : (o : Option Step) → is_none o ≡ false → (s : Step) × (o ≡ Some s)
+step_is None h = cc
+step_is (Some s) h = (s, refl)
 
-pub batch_is : (o : Option Step) → IsBatch o → (zones : List Query) × (o ≡ Some (step.Batch zones))
-batch_is None h = absurd h
-batch_is (Some (step.Publish source how file)) h = absurd h
-batch_is (Some (step.Batch zones)) h = (zones, refl)
+pub publish_is : (o : Option Step) → is_publish o ≡ true → (source : ℕ) × (how : _) × (file : _) × (o ≡ Some (step.Publish source how file))
+publish_is None h = cc
+publish_is (Some (step.Publish source how file)) h = (source, how, file, refl)
+publish_is (Some (step.Batch zones)) h = cc
+
+pub batch_is : (o : Option Step) → is_batch o ≡ true → (o ≡ Some (step.Batch (zones_of o)))
+batch_is None h = cc
+batch_is (Some (step.Publish source how file)) h = cc
+batch_is (Some (step.Batch zones)) h = refl
 
 -- bounds
 
-both_true : (a b : Bool) → (a && b) ≡ true → (a ≡ true) × (b ≡ true)
+pub both_true : (a b : Bool) → (a && b) ≡ true → (a ≡ true) × (b ≡ true)
 both_true true true e = (refl, refl)
 both_true true false e = cc
 both_true false b e = cc
@@ -83,3 +88,14 @@ few_zones l lane (suc i) zones h at =
     let n : suc i ≡ i + 1 = omega arith in
     let fits = both_true (leb (length (steps_of l lane)) most_steps) (list_all (step_fits (length l.script.schemas)) (steps_of l lane)) (steps_fit l lane h) in
     few_in (length l.script.schemas) (steps_of l lane) i zones fits.1 (sym (step_next l lane i) ∙ rw n at at)
+
+pub over_at : (ss : List Step) (i : ℕ) → slice_get ss i ≡ None → i ≤ length ss → i ≡ length ss
+over_at [] i at le = omega (arith, le)
+over_at (s ∷ ss) zero at le = cc
+over_at (s ∷ ss) (suc i) at le = ap suc (over_at ss i at (omega (arith, le)))
+
+pub lane_above : (lanes lane : ℕ) → is_lane lanes lane ≡ true → 0 < lane
+lane_above lanes lane h = grind (arith, common_steps)
+
+pub lane_within : (lanes lane : ℕ) → is_lane lanes lane ≡ true → lane ≤ lanes
+lane_within lanes lane h = grind (arith, common_steps)

@@ -1,218 +1,231 @@
--- A turn of a lane.
-use Rattle.std.proofs.Common.{◌≡◌, ℕ, ◌+◌, ◌-◌, ◌<◌, ◌≤◌, inl, inr, Bool, false, List, [], ◌∷◌, ◌++◌, length, length-set, map, take, slice_get, slice_set, Option, Some, None, refl, ap, sym, ◌∙◌, arith}
-use Rattle.std.proofs.lemmas.List.{get_or-set_same, length-map, length-take-le}
-use Rattle.std.proofs.lemmas.Option.{slice_get-get_or, slice_get_within}
-use Rattle.dq_base.specs.Headings.{Heading}
-use Rattle.dq_base.specs.Scripts.{step_of}
-use Rattle.dq_base.specs.declared.query.Query.{Query}
+-- A turn of a lane that has no batch under way.
+use Rattle.std.proofs.Common.{◌≡◌, ℕ, ◌+◌, ◌-◌, ◌<◌, ◌≤◌, ◌^◌, inl, inr, Bool, true, false, eqb, ◌&&◌, List, [], ◌∷◌, ◌++◌, length, map, take, slice_get, slice_set, Option, Some, None, refl, ap, sym, ◌∙◌, arith, append-nil}
+use Rattle.std.proofs.lemmas.Bool.{eq-eqb}
+use Rattle.std.proofs.lemmas.Option.{slice_get_within}
+use Rattle.dq_base.specs.Scripts.{numbered, step_of, zones_of}
+use Rattle.dq_base.specs.declared.script.Fails.{Fails}
 use Rattle.dq_base.specs.declared.script.Step.{Step}
 use Rattle.dq_base.specs.declared.script.Step.TheVariants as step
+use Rattle.dq_batch.specs.Turns.{IsAdmission}
+use Rattle.dq_batch.specs.Views.{BatchOf}
 use Rattle.dq_extract.specs.Loads.{LoadedFiles}
 use Rattle.dq_journal.specs.Journals.{lane_of}
-use Rattle.dq_journal.specs.Right.{AreRefused, step_in}
-use Rattle.dq_journal.specs.Standing.{stand}
+use Rattle.dq_journal.specs.Steps.{step_in}
 use Rattle.dq_journal.specs.declared.entry.Entry.{Entry}
-use Rattle.dq_journal.specs.declared.entry.Entry.TheVariants.{Publish, Admit}
+use Rattle.dq_journal.specs.declared.entry.Entry.TheVariants.{Publish, Admit, End}
 use Rattle.dq_journal.specs.declared.result.StepResult.{StepResult}
-use Rattle.dq_journal.specs.declared.result.StepResult.TheVariants.{Published, Unpublished, Admitted, Unadmitted}
-use Rattle.dq_journal.specs.declared.result.ZoneResult.{ZoneResult}
-use Rattle.dq_desk.specs.Machine.{Legal}
-use Rattle.dq_desk.specs.Preparing.{PreparedOf, preparation}
-use Rattle.dq_desk.specs.Stood.{StoodOf, AreStood}
-use Rattle.dq_lane.specs.Courses.{CanSettle, HasNext, settled, set_admitted, with_stood}
-use Rattle.dq_lane.specs.Events.{HasAdmitted, HasPublished, IsEvent, IsStep, prepared_of}
-use Rattle.dq_lane.specs.Kept.{IsAdmittedLast, IsLane, IsProgress, IsRefusal}
+use Rattle.dq_journal.specs.declared.result.StepResult.TheVariants.{Published}
+use Rattle.dq_laws.specs.Lengths.{most_entries_of_journal}
+use Rattle.dq_machine.specs.Admitting.{admission_of}
+use Rattle.dq_machine.specs.Machine.{after, legal, work_by}
+use Rattle.dq_machine.specs.Order.{admits, publishes}
+use Rattle.dq_machine.specs.Right.{IsResult}
+use Rattle.dq_machine.specs.State.{is_free, work_of}
+use Rattle.dq_lane.specs.Courses.{CanSettle, IsShut, settled}
+use Rattle.dq_lane.specs.Events.{HasAdmitted, HasPublished, IsEvent}
+use Rattle.dq_lane.specs.Kept.{IsLane, IsOpenLast, IsProgress, is_idle}
 use Rattle.dq_lane.specs.Turns.{IsTurn}
-use Rattle.dq_lane.specs.View.{is_pending, lane_view, place_of, steps_of, turns_left}
+use Rattle.dq_lane.specs.View.{lane_view, place_of, places_of, steps_of}
 use Rattle.dq_lane.specs.declared.course.Course.{Course}
 use Rattle.dq_lane.specs.declared.event.Event.{Event}
 use Rattle.dq_lane.specs.declared.event.Event.TheVariants as event
 use Rattle.dq_lane.specs.declared.lane.Stepped.TheVariants.{Moved}
 use Rattle.dq_lane.specs.declared.progress.Progress.{Progress}
 use Rattle.dq_lane.specs.declared.progress.Progress.TheVariants as progress
-use Rattle.dq_lane.proofs.Entries.{admitted_work, numbered_last, published_work}
-use Rattle.dq_lane.proofs.Kept.{IsLane-ended, IsLane-made, IsLane-refused, IsMade, over_at}
-use Rattle.dq_lane.proofs.Limits.{batch_is, publish_is, step_next}
-use Rattle.dq_lane.proofs.Refused.{outcomes_refused}
-use Rattle.dq_lane.proofs.Results.{places_more, places_set, refusal_at}
+use Rattle.dq_lane.proofs.Kept.{IsLane-admitted, IsLane-ended, IsLane-published, IsLane-refused, length_places, shut_closed, shut_places}
+use Rattle.dq_lane.proofs.Limits.{batch_is, lane_above, next_is, over_at, publish_is, step_is}
+use Rattle.dq_lane.proofs.Places.{numbered_last}
+use Rattle.dq_lane.proofs.Refused.{no_place, refusal_at}
+use Rattle.dq_lane.proofs.Results.{places_more, places_set}
+use Rattle.dq_lane.proofs.Told.{NamesNext}
+use Rattle.dq_lane.proofs.Works.{free_of, work_set}
 
-step_is : (o : Option Step) → IsStep o → (s : Step) × (o ≡ Some s)
-step_is None h = absurd h
-step_is (Some s) h = (s, refl)
+shut_idle : {L : Type 0} (l : LoadedFiles) (lane : ℕ) (seen : List Entry) (taken : ℕ) (done : Bool) (p : Progress L) → IsShut p → IsProgress l lane seen taken done p → is_idle (work_of (after l seen) lane) ≡ true
+shut_idle l lane seen taken done progress.Fresh shut h = h.0
+shut_idle l lane seen taken done progress.Ready shut h = h
+shut_idle l lane seen taken done (progress.Prepared p) shut h = h.0
+shut_idle l lane seen taken done (progress.Open b) shut h = absurd shut
 
--- a batch to come is unadmitted, with what refuses its zones
-unadmitted_is : (schemas : List Heading) (zones : List Query) (r : StepResult) → IsRefusal schemas (step.Batch zones) r → (outcomes : List ZoneResult) × (r ≡ Unadmitted outcomes) × AreRefused schemas zones outcomes
-unadmitted_is schemas zones (Published place) h = absurd h
-unadmitted_is schemas zones Unpublished h = absurd h
-unadmitted_is schemas zones (Admitted place outcomes) h = absurd h
-unadmitted_is schemas zones (Unadmitted outcomes) h = (outcomes, refl, h)
+same_names : (lane n k : ℕ) → n ≡ k → (eqb lane lane && eqb n k) ≡ true
+same_names lane n k e = rw (eq-eqb lane lane refl, eq-eqb n k e) refl
 
-no_place : (schemas : List Heading) (s : Step) (r : StepResult) → IsRefusal schemas s r → place_of r ≡ None
-no_place schemas (step.Publish source how file) (Published place) h = absurd h
-no_place schemas (step.Publish source how file) Unpublished h = refl
-no_place schemas (step.Publish source how file) (Admitted place outcomes) h = absurd h
-no_place schemas (step.Publish source how file) (Unadmitted outcomes) h = absurd h
-no_place schemas (step.Batch zones) (Published place) h = absurd h
-no_place schemas (step.Batch zones) Unpublished h = absurd h
-no_place schemas (step.Batch zones) (Admitted place outcomes) h = absurd h
-no_place schemas (step.Batch zones) (Unadmitted outcomes) h = refl
+module _ {L : Type 0} (l : LoadedFiles) (lane : ℕ) (old : List Entry) (c : Course L) (faults : ℕ) (plan : Option Fails) (h : IsLane l lane old c faults plan) (shut : IsShut c.progress) (going : c.done ≡ false) where
+  abbrev places : List (Option ℕ)
+  places = map place_of (take c.taken c.results)
 
-there_set : (rs : List StepResult) (i : ℕ) (r : StepResult) → i < length rs → slice_get (slice_set rs i r) i ≡ Some r
-there_set rs i r lt = slice_get-get_or (slice_set rs i r) i r (omega (arith, lt, length-set rs i r)) ∙ ap Some (get_or-set_same rs i r r lt)
+  few : length places ≡ c.taken
+  few = length_places c.taken c.results (omega (arith, h.within, h.count))
 
--- the next step
+  idle : is_idle (work_of (after l old) lane) ≡ true
+  idle = shut_idle l lane old c.taken c.done c.progress shut h.progress
 
-next_is : (l : LoadedFiles) (lane : ℕ) (c : Course) (o : Option Step) → step_of l.script.lanes lane (c.taken + 1) ≡ o → slice_get (steps_of l lane) c.taken ≡ o
-next_is l lane c o e = sym (step_next l lane c.taken) ∙ e
+  pub free : is_free (work_of (after l old) lane) ≡ true
+  free = free_of (work_of (after l old) lane) (h.told.ended ∙ going) idle
 
-has_next : (l : LoadedFiles) (lane : ℕ) (old : List Entry) (c : Course) (s : Step) → IsLane l lane old c → step_of l.script.lanes lane (c.taken + 1) ≡ Some s → HasNext c
-has_next l lane old c s h e =
-    let lt = slice_get_within (steps_of l lane) c.taken s (next_is l lane c (Some s) e) in
-    (omega (arith, lt, h.count), omega (arith, lt, h.few))
+  below : (s : Step) → step_of l.script.lanes lane (c.taken + 1) ≡ Some s → c.taken < length (steps_of l lane)
+  below s e = slice_get_within (steps_of l lane) c.taken s (next_is l lane c.taken (Some s) e)
 
-pub can_settle : (l : LoadedFiles) (lane : ℕ) (old new : List Entry) (c : Course) (e : Event) → IsLane l lane old c → IsEvent l lane (c.taken + 1) (prepared_of c.progress) old new e → CanSettle c e
-can_settle l lane old new c event.Refused h ev = let s = step_is _ ev.0 in has_next l lane old c s.0 h s.1
-can_settle l lane old new c (event.Published place) h ev = let s = publish_is _ ev.kind in has_next l lane old c _ h s.3
-can_settle l lane old new c (event.Admitted place stood) h ev = let s = batch_is _ ev.kind in has_next l lane old c _ h s.1
-can_settle l lane old new c event.Ended h ev = tt
+  can_next : (s : Step) → step_of l.script.lanes lane (c.taken + 1) ≡ Some s → (c.taken + 1 < 2 ^ 32) × (c.taken < length c.results)
+  can_next s e = let lt = below s e in (omega (arith, lt, h.few), omega (arith, lt, h.count))
 
--- what the lane keeps afterwards
+  pub can_settle : (new : List Entry) (e : Event L) → IsEvent l lane (c.taken + 1) old new e → CanSettle c e
+  can_settle new event.Refused ev = let s = step_is _ ev.0 in (can_next s.0 s.1).0
+  can_settle new (event.Published place) ev = let s = publish_is _ ev.kind in can_next _ s.3
+  can_settle new (event.Admitted b) ev = (can_next _ (batch_is _ ev.kind)).0
+  can_settle new event.Ended ev = tt
 
-published_lane : (l : LoadedFiles) (lane : ℕ) (old new : List Entry) (c : Course) (place : ℕ) → IsLane l lane old c → c.done ≡ false → Legal l new → HasPublished l lane (c.taken + 1) old new place
-    → IsLane l lane new (record c { taken = c.taken + 1; results = slice_set c.results c.taken (Published place); progress = progress.Fresh })
-published_lane l lane old new c place h going legal ev =
-    let s = publish_is _ ev.kind in
-    let e = Publish lane (c.taken + 1) in
-    let last : place ≡ length (old ++ e ∷ []) = rw ev.journal at ev.last in
-    let made : IsMade l lane old e (c.taken + 1) (step.Publish s.0 s.1 s.2) (Published place) = record {
-      own = refl;
-      names = refl;
-      no_end = refl;
-      told = λ n. refl;
-      right = λ more. rw last (numbered_last old e more);
-      work = published_work l old lane (c.taken + 1) s.0 s.1 s.2 h.from_one h.is_lane s.3;
-    } in
-    rw ev.journal (IsLane-made l lane old e c (step.Publish s.0 s.1 s.2) (Published place) progress.Fresh h going (next_is l lane c _ s.3) (rw ev.journal at legal) made tt)
+  -- the entry of a publication
 
-admitted_last : (l : LoadedFiles) (lane : ℕ) (new : List Entry) (taken : ℕ) (results : List StepResult) (zones : List Query) (place : ℕ) (outcomes : List ZoneResult) (prepared : PreparedOf) (stood : List StoodOf)
-    → slice_get (steps_of l lane) taken ≡ Some (step.Batch zones) → taken < length results → prepared ≡ preparation l.script.schemas zones → place ≤ length new → AreStood l new place prepared.canons stood
-    → IsAdmittedLast l lane new (taken + 1) (slice_set results taken (Admitted place outcomes)) prepared stood
-admitted_last l lane new taken results zones place outcomes prepared stood at lt prepares within stands =
-    let back : taken + 1 - 1 ≡ taken = omega arith in
-    record {
-      zones = zones;
-      place = place;
-      outcomes = outcomes;
-      some = omega arith;
-      step = rw back at;
-      result = rw back (there_set results taken (Admitted place outcomes) lt);
-      prepares = prepares;
-      within = within;
-      stands = stands;
-    }
+  module _ (new : List Entry) (lawful : legal l new ≡ true) (short : length new ≤ most_entries_of_journal) where
+    names_publish : (place source : ℕ) (how file : _) → HasPublished l lane (c.taken + 1) old new place → step_of l.script.lanes lane (c.taken + 1) ≡ Some (step.Publish source how file)
+        → NamesNext l lane old places (step.Publish source how file) (Publish lane (c.taken + 1))
+    names_publish place source how file ev kind =
+        let e = Publish lane (c.taken + 1) in
+        let w = work_set l old e (rw ev.journal at lawful) in
+        let number : c.taken + 1 ≡ 1 + length places = omega (arith, few) in
+        record {
+          own = refl;
+          at = rw few (next_is l lane c.taken _ kind);
+          names = rw few refl;
+          tells = ap (publishes lane (1 + length places)) (numbered_last old e) ∙ same_names lane (c.taken + 1) (1 + length places) number;
+          goes = refl;
+          legal = rw ev.journal at lawful;
+          ended = rw w (h.told.ended ∙ going);
+          short = rw ev.journal at short;
+        }
 
-admitted_lane : (l : LoadedFiles) (lane : ℕ) (old new : List Entry) (c : Course) (place : ℕ) (stood : List StoodOf) (p : Progress) → IsLane l lane old c → c.done ≡ false → Legal l new
-    → is_pending p ≡ false → IsProgress l lane old c.taken c.results p → HasAdmitted l lane (c.taken + 1) (prepared_of p) old new place stood
-    → IsLane l lane new (record c { taken = c.taken + 1; results = set_admitted c.results c.taken place (slice_get c.results c.taken); progress = with_stood p stood })
-admitted_lane l lane old new c place stood progress.Fresh h going legal idle for_step ev = cc
-admitted_lane l lane old new c place stood progress.Ready h going legal idle for_step ev = absurd ev.stands
-admitted_lane l lane old new c place stood (progress.Admitted prepared before) h going legal idle for_step ev = cc
-admitted_lane l lane old new c place stood (progress.Prepared prepared) h going legal idle for_step ev =
-    let s = batch_is _ ev.kind in
-    let zones = s.0 in
-    let e = Admit lane (c.taken + 1) [] in
-    let at = next_is l lane c (Some (step.Batch zones)) s.1 in
-    let lt = slice_get_within (steps_of l lane) c.taken (step.Batch zones) at in
-    let in_results : c.taken < length c.results = omega (arith, lt, h.count) in
-    let refusal = refusal_at l.script.schemas c.taken (steps_of l lane) c.results (step.Batch zones) h.to_come at h.count in
-    let u = unadmitted_is l.script.schemas zones refusal.0 refusal.2 in
-    let there : slice_get c.results c.taken ≡ Some (Unadmitted u.0) = refusal.1 ∙ ap Some u.1 in
-    let last : place ≡ length (old ++ e ∷ []) = rw ev.journal at ev.last in
-    let made : IsMade l lane old e (c.taken + 1) (step.Batch zones) (Admitted place u.0) = record {
-      own = refl;
-      names = refl;
-      no_end = refl;
-      told = λ n. refl;
-      right = λ more. (([], rw last (numbered_last old e more)), outcomes_refused l.script.schemas (stand l ((old ++ e ∷ []) ++ more) place) zones u.0 u.2);
-      work = admitted_work l old lane (c.taken + 1) zones h.from_one h.is_lane s.1;
-    } in
-    let stands : AreStood l (old ++ e ∷ []) place prepared.canons stood = rw ev.journal at ev.stands in
-    let last_step = admitted_last l lane (old ++ e ∷ []) c.taken c.results zones place u.0 prepared stood at in_results (rw s.1 at for_step) (omega (arith, last)) stands in
-    rw (ev.journal, there) (IsLane-made l lane old e c (step.Batch zones) (Admitted place u.0) (progress.Admitted prepared stood) h going at (rw ev.journal at legal) made last_step)
+    published_lane : (place : ℕ) → HasPublished l lane (c.taken + 1) old new place → IsLane l lane new (settled c (event.Published place)) faults plan
+    published_lane place ev =
+        let s = publish_is _ ev.kind in
+        let e = Publish lane (c.taken + 1) in
+        let w = work_set l old e (rw ev.journal at lawful) in
+        let last : place ≡ length (old ++ e ∷ []) = rw ev.journal at ev.last in
+        rw ev.journal (IsLane-published l lane old c faults plan h shut going (step.Publish s.0 s.1 s.2) (Published place) e (names_publish place s.0 s.1 s.2 ev s.3) (ap Some last)
+        (λ more. tt) refl (rw w refl) (rw w idle))
 
-pub settled_lane : (l : LoadedFiles) (lane : ℕ) (old new : List Entry) (c : Course) (e : Event) → IsLane l lane old c → c.done ≡ false → is_pending c.progress ≡ false → Legal l new
-    → IsEvent l lane (c.taken + 1) (prepared_of c.progress) old new e → IsLane l lane new (settled c e)
-settled_lane l lane old new c event.Refused h going idle legal ev =
-    let s = step_is _ ev.0 in
-    rw ev.1 (IsLane-refused l lane old c s.0 h going (next_is l lane c _ s.1))
-settled_lane l lane old new c (event.Published place) h going idle legal ev = published_lane l lane old new c place h going legal ev
-settled_lane l lane old new c (event.Admitted place stood) h going idle legal ev = admitted_lane l lane old new c place stood c.progress h going legal idle h.progress ev
-settled_lane l lane old new c event.Ended h going idle legal ev = rw ev.1 (IsLane-ended l lane old c h going (next_is l lane c None ev.0) (rw ev.1 at legal))
+    -- that of an admission
 
--- the turn
+    names_admit : (b : BatchOf) → (ev : HasAdmitted l lane (c.taken + 1) old new b)
+        → NamesNext l lane old places (step.Batch (zones_of (step_of l.script.lanes lane (c.taken + 1)))) (Admit lane (c.taken + 1) (admission_of l (after l old) lane (c.taken + 1)).met)
+    names_admit b ev =
+        let e = Admit lane (c.taken + 1) (admission_of l (after l old) lane (c.taken + 1)).met in
+        let w = work_set l old e (rw ev.admission.journal at lawful) in
+        let number : c.taken + 1 ≡ 1 + length places = omega (arith, few) in
+        record {
+          own = refl;
+          at = rw few (next_is l lane c.taken _ (batch_is _ ev.kind));
+          names = rw few refl;
+          tells = ap (admits lane (1 + length places)) (numbered_last old e) ∙ same_names lane (c.taken + 1) (1 + length places) number;
+          goes = refl;
+          legal = rw ev.admission.journal at lawful;
+          ended = rw w (h.told.ended ∙ going);
+          short = rw ev.admission.journal at short;
+        }
 
-length_places : (l : LoadedFiles) (lane : ℕ) (old : List Entry) (c : Course) → IsLane l lane old c → length (map place_of (take c.taken c.results)) ≡ c.taken
-length_places l lane old c h = length-map (take c.taken c.results) place_of ∙ length-take-le c.taken c.results (omega (arith, h.within, h.count))
+    admitted_lane : (b : BatchOf) → HasAdmitted l lane (c.taken + 1) old new b → IsLane l lane new (settled c (event.Admitted b)) faults plan
+    admitted_lane b ev =
+        let e = Admit lane (c.taken + 1) (admission_of l (after l old) lane (c.taken + 1)).met in
+        let w = work_set l old e (rw ev.admission.journal at lawful) in
+        let place : b.place ≡ length (old ++ e ∷ []) = rw ev.admission.journal at ev.admission.place in
+        let opened : IsOpenLast l lane (old ++ e ∷ []) (c.taken + 1) false b = record {
+          some = omega arith;
+          going = refl;
+          loaded = ev.admission.loaded;
+          lane = ev.admission.lane_is;
+          step = ev.admission.step_is;
+          seen = rw ev.admission.journal at ev.admission.seen;
+          kind = ev.kind;
+        } in
+        rw ev.admission.journal (IsLane-admitted l lane old c faults plan h shut going _ b e (names_admit b ev) place ev.admission.untold refl (rw w refl) opened)
 
-one_less : (steps taken : ℕ) (done : Bool) → done ≡ false → taken < steps → turns_left steps (taken + 1) done + 1 ≡ turns_left steps taken done
-one_less steps taken done going lt = rw going (omega (arith, lt))
+    ended_lane : IsEvent {L = L} l lane (c.taken + 1) old new event.Ended → IsLane l lane new (settled c event.Ended) faults plan
+    ended_lane ev =
+        let w = work_set l old (End lane) (rw ev.1 at lawful) in
+        rw ev.1 (IsLane-ended l lane old c faults plan h shut going (next_is l lane c.taken None ev.0) (rw ev.1 at lawful) (rw w refl) (rw w h.last) (rw w idle) (rw ev.1 at short))
 
--- the next step has its entry
-enters : (l : LoadedFiles) (lane : ℕ) (seen old new : List Entry) (c : Course) (entry : Entry) (r : StepResult) (p : Progress) → IsLane l lane old c → c.done ≡ false → c.taken < length (steps_of l lane)
-    → lane_of entry ≡ lane → step_in entry ≡ (c.taken + 1) ∷ [] → new ≡ old ++ entry ∷ [] → place_of r ≡ Some (length new)
-    → IsTurn Moved (lane_view l lane seen c) (lane_view l lane new (record c { taken = c.taken + 1; results = slice_set c.results c.taken r; progress = p })) old new
-enters l lane seen old new c entry r p h going lt own names journal told = (
-  going,
-  one_less (length (steps_of l lane)) c.taken c.done going lt,
-  inr (inl (record {
-    entry = entry;
-    names = rw (length_places l lane old c h) names;
-    of_lane = own;
-    journal = journal;
-    places = rw (← told) (places_set c.taken c.results r (omega (arith, lt, h.count)));
-    going = going;
-  })),
-)
+    pub settled_lane : (e : Event L) → IsEvent l lane (c.taken + 1) old new e → IsLane l lane new (settled c e) faults plan
+    settled_lane event.Refused ev =
+        let s = step_is _ ev.0 in
+        rw ev.1 (IsLane-refused l lane old c faults plan h shut going s.0 (next_is l lane c.taken _ s.1) idle)
+    settled_lane (event.Published place) ev = published_lane place ev
+    settled_lane (event.Admitted b) ev = admitted_lane b ev
+    settled_lane event.Ended ev = ended_lane ev
 
-admitted_turn : (l : LoadedFiles) (lane : ℕ) (seen old new : List Entry) (c : Course) (place : ℕ) (stood : List StoodOf) (p q : Progress) → IsLane l lane old c → c.done ≡ false → HasAdmitted l lane (c.taken + 1) (prepared_of p) old new place stood
-    → IsTurn Moved (lane_view l lane seen c) (lane_view l lane new (record c { taken = c.taken + 1; results = set_admitted c.results c.taken place (slice_get c.results c.taken); progress = q })) old new
-admitted_turn l lane seen old new c place stood p q h going ev =
-    let s = batch_is _ ev.kind in
-    let at = next_is l lane c (Some (step.Batch s.0)) s.1 in
-    let lt = slice_get_within (steps_of l lane) c.taken (step.Batch s.0) at in
-    let refusal = refusal_at l.script.schemas c.taken (steps_of l lane) c.results (step.Batch s.0) h.to_come at h.count in
-    let u = unadmitted_is l.script.schemas s.0 refusal.0 refusal.2 in
-    let there : slice_get c.results c.taken ≡ Some (Unadmitted u.0) = refusal.1 ∙ ap Some u.1 in
-    rw there (enters l lane seen old new c (Admit lane (c.taken + 1) []) (Admitted place u.0) q h going lt refl refl ev.journal (ap Some ev.last))
+    -- what contracts see of the turn
 
-pub turn_of : (l : LoadedFiles) (lane : ℕ) (seen old new : List Entry) (c : Course) (e : Event) → IsLane l lane old c → c.done ≡ false → IsEvent l lane (c.taken + 1) (prepared_of c.progress) old new e
-    → IsTurn Moved (lane_view l lane seen c) (lane_view l lane new (settled c e)) old new
-turn_of l lane seen old new c event.Refused h going ev =
-    let s = step_is _ ev.0 in
-    let at = next_is l lane c (Some s.0) s.1 in
-    let lt = slice_get_within (steps_of l lane) c.taken s.0 at in
-    let refusal = refusal_at l.script.schemas c.taken (steps_of l lane) c.results s.0 h.to_come at h.count in (
-      going,
-      one_less (length (steps_of l lane)) c.taken c.done going lt,
-      inl (record {
-        journal = ev.1;
-        places = rw (← no_place l.script.schemas s.0 refusal.0 refusal.2) (places_more c.taken c.results refusal.0 refusal.1);
-        going = going;
-      }),
-    )
-turn_of l lane seen old new c (event.Published place) h going ev =
-    let s = publish_is _ ev.kind in
-    let lt = slice_get_within (steps_of l lane) c.taken _ (next_is l lane c _ s.3) in
-    enters l lane seen old new c (Publish lane (c.taken + 1)) (Published place) progress.Fresh h going lt refl refl ev.journal (ap Some ev.last)
-turn_of l lane seen old new c (event.Admitted place stood) h going ev = admitted_turn l lane seen old new c place stood c.progress (with_stood c.progress stood) h going ev
-turn_of l lane seen old new c event.Ended h going ev =
-    let over = over_at (steps_of l lane) c.taken (next_is l lane c None ev.0) h.within in (
-      going,
-      rw going (omega arith),
-      inr (inr (record {
-        journal = ev.1;
-        places = refl;
-        over = length_places l lane old c h ∙ over;
-        done = refl;
-      })),
-    )
+    same_places : places_of c ≡ places
+    same_places = shut_places c shut
+
+    count_places : length (places_of c) ≡ c.taken
+    count_places = ap (λ ps. length ps) same_places ∙ few
+
+    published_places : (place : ℕ) → c.taken < length c.results → places_of (settled c (event.Published place)) ≡ places_of c ++ Some place ∷ []
+    published_places place lt =
+        append-nil (map place_of (take (c.taken + 1) (slice_set c.results c.taken (Published place))))
+        ∙ places_set c.taken c.results (Published place) lt
+        ∙ ap (λ ps. ps ++ Some place ∷ []) (sym same_places)
+
+    admitted_places : (b : BatchOf) → places_of (settled c (event.Admitted b)) ≡ places_of c ++ Some b.place ∷ []
+    admitted_places b =
+        let back : c.taken + 1 - 1 ≡ c.taken = omega arith in
+        rw back (ap (λ ps. ps ++ Some b.place ∷ []) (sym same_places))
+
+    refused_places : (s : Step) → slice_get (steps_of l lane) c.taken ≡ Some s → places_of (settled c event.Refused) ≡ places_of c ++ None ∷ []
+    refused_places s at =
+        let results = rw (shut_closed c.progress c.taken shut) at h.results.to_come in
+        let r = refusal_at l.script.schemas c.taken (steps_of l lane) c.results s results at h.count in
+        append-nil (map place_of (take (c.taken + 1) c.results))
+        ∙ places_more c.taken c.results r.0 r.1
+        ∙ ap (λ p. places ++ p ∷ []) (no_place l.script.schemas s r.0 r.2)
+        ∙ ap (λ ps. ps ++ None ∷ []) (sym same_places)
+
+    pub turn_of : (seen : List Entry) (e : Event L) → IsEvent l lane (c.taken + 1) old new e → IsTurn Moved (lane_view l lane seen c) (lane_view l lane new (settled c e)) old new
+    turn_of seen event.Refused ev =
+        let s = step_is _ ev.0 in
+        let lt = below s.0 s.1 in (
+          going,
+          inl (record {
+            journal = ev.1;
+            free = free;
+            below = omega (arith, lt, count_places);
+            places = refused_places s.0 (next_is l lane c.taken _ s.1);
+            going = going;
+          }),
+        )
+    turn_of seen (event.Published place) ev =
+        let s = publish_is _ ev.kind in
+        let lt = below _ s.3 in (
+          going,
+          inr (inl (record {
+            entry = Publish lane (c.taken + 1);
+            names = rw count_places refl;
+            of_lane = refl;
+            journal = ev.journal;
+            below = omega (arith, lt, count_places);
+            places = rw (← ev.last) (published_places place (omega (arith, lt, h.count)));
+            going = going;
+          })),
+        )
+    turn_of seen (event.Admitted b) ev =
+        let lt = below _ (batch_is _ ev.kind) in (
+          going,
+          inr (inl (record {
+            entry = Admit lane (c.taken + 1) (admission_of l (after l old) lane (c.taken + 1)).met;
+            names = rw count_places refl;
+            of_lane = refl;
+            journal = ev.admission.journal;
+            below = omega (arith, lt, count_places);
+            places = rw (← ev.admission.place) (admitted_places b);
+            going = going;
+          })),
+        )
+    turn_of seen event.Ended ev =
+        let over = over_at (steps_of l lane) c.taken (next_is l lane c.taken None ev.0) h.within in (
+          going,
+          inr (inr (inr (record {
+            journal = ev.1;
+            over = count_places ∙ over;
+            places = append-nil places ∙ sym same_places;
+            done = refl;
+          }))),
+        )

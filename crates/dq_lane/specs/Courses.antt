@@ -1,115 +1,144 @@
--- How a lane's course goes on.
-use Rattle.std.specs.Prelude.{◌≡◌, ℕ, ◌+◌, ◌-◌, ◌<◌, ◌^◌, true, List, length, slice_get, slice_set, Option, Some, None}
-use Rattle.dq_base.specs.Headings.{Heading}
-use Rattle.dq_base.specs.Scripts.{step_of}
-use Rattle.dq_base.specs.declared.script.Step.{Step}
+-- What work and turns make of a lane's course.
+use Rattle.std.specs.Prelude.{◌≡◌, ⊤, ℕ, ◌+◌, ◌-◌, ◌<◌, ◌^◌, true, false, MatchBool, List, length, slice_get, slice_set, Option, Some, None}
+use Rattle.dq_base.specs.declared.script.Fails.{Fails}
+use Rattle.dq_batch.specs.Turns.{IsTurned}
+use Rattle.dq_batch.specs.Views.{BatchOf}
+use Rattle.dq_batch.specs.declared.open.Turned.{Turned}
+use Rattle.dq_bring.specs.Dials.{IsPlanOf}
 use Rattle.dq_extract.specs.Loads.{LoadedFiles}
+use Rattle.dq_fates.specs.GoingOn.{GoesOn}
+use Rattle.dq_journal.specs.declared.entry.Entry.{Entry}
 use Rattle.dq_journal.specs.declared.result.StepResult.{StepResult}
-use Rattle.dq_journal.specs.declared.result.StepResult.TheVariants.{Published, Unpublished, Admitted, Unadmitted}
-use Rattle.dq_desk.specs.Preparing.{PreparedOf}
-use Rattle.dq_desk.specs.Stood.{StoodOf}
-use Rattle.dq_lane.specs.Answering.{FitZones, KeepOutcomes}
-use Rattle.dq_lane.specs.Events.{IsProgressFor}
+use Rattle.dq_journal.specs.declared.result.StepResult.TheVariants.{Published}
+use Rattle.dq_machine.specs.Machine.{after, legal}
+use Rattle.dq_machine.specs.State.{is_free, work_of}
+use Rattle.dq_lane.specs.Closing.{CanCloseIn, HasClosedAs}
+use Rattle.dq_lane.specs.Progress.{IsPreparedFor}
 use Rattle.dq_lane.specs.declared.course.Course.{Course}
 use Rattle.dq_lane.specs.declared.event.Event.{Event}
 use Rattle.dq_lane.specs.declared.event.Event.TheVariants as event
 use Rattle.dq_lane.specs.declared.progress.Progress.{Progress}
 use Rattle.dq_lane.specs.declared.progress.Progress.TheVariants as progress
 
--- events
+-- the result of the step that had its turn last is that of a refused batch
+abbrev pub CanEndWith : ℕ → List StepResult → BatchOf → Type 0
+CanEndWith taken results b = (0 < taken) × (r : StepResult) × (slice_get results (taken - 1) ≡ Some r) × CanCloseIn b r
 
--- a refused batch's result, if it is admitted at this place
-abbrev pub admitted_at : ℕ → StepResult → StepResult
-admitted_at place (Published p) = Published p
-admitted_at place Unpublished = Unpublished
-admitted_at place (Admitted p outcomes) = Admitted p outcomes
-admitted_at place (Unadmitted outcomes) = Admitted place outcomes
+-- a batch under way may have its next turn
+pub record CanTurn (l desk : LoadedFiles) (journal : List Entry) (b : BatchOf) : Type 0 where
+  pub worked : b.pending ≡ false
+  pub more : b.over ≡ false
+  pub loaded : l ≡ b.loaded
+  pub same : desk ≡ b.loaded
+  pub goes_on : GoesOn b.lane b.seen journal
 
-abbrev pub set_admitted : List StepResult → ℕ → ℕ → Option StepResult → List StepResult
-set_admitted results taken place None = results
-set_admitted results taken place (Some r) = slice_set results taken (admitted_at place r)
+-- where it stands behind it
+pub record StandsAt (b : BatchOf) : Type 0 where
+  pub legal : legal b.loaded b.seen ≡ true
+  pub last : (work_of (after b.loaded b.seen) b.lane).last ≡ b.step
+  pub unended : (work_of (after b.loaded b.seen) b.lane).ended ≡ false
 
--- a prepared batch, as admitted
-abbrev pub with_stood : Progress → List StoodOf → Progress
-with_stood progress.Fresh stood = progress.Fresh
-with_stood progress.Ready stood = progress.Ready
-with_stood (progress.Prepared prepared) stood = progress.Admitted prepared stood
-with_stood (progress.Admitted prepared s) stood = progress.Admitted prepared s
+module _ {L : Type 0} where
+  -- an event
 
--- the course after an event
-abbrev pub settled : Course → Event → Course
-settled c event.Refused = record c { taken = c.taken + 1; progress = progress.Fresh }
-settled c (event.Published place) = record c { taken = c.taken + 1; results = slice_set c.results c.taken (Published place); progress = progress.Fresh }
-settled c (event.Admitted place stood) =
-    record c { taken = c.taken + 1; results = set_admitted c.results c.taken place (slice_get c.results c.taken); progress = with_stood c.progress stood }
-settled c event.Ended = record c { done = true; progress = progress.Ready }
+  abbrev pub settled : Course L → Event L → Course L
+  settled c event.Refused = record c { taken = c.taken + 1; progress = progress.Fresh }
+  settled c (event.Published place) = record c { taken = c.taken + 1; results = slice_set c.results c.taken (Published place); progress = progress.Fresh }
+  settled c (event.Admitted b) = record c { taken = c.taken + 1; progress = progress.Open b }
+  settled c event.Ended = record c { done = true; progress = progress.Ready }
 
--- there is a step to come
-abbrev pub HasNext : Course → Type 0
-HasNext c = (c.taken < length c.results) × (c.taken + 1 < 2 ^ 32)
+  abbrev pub CanSettle : Course L → Event L → Type 0
+  CanSettle c event.Refused = c.taken + 1 < 2 ^ 32
+  CanSettle c (event.Published place) = (c.taken + 1 < 2 ^ 32) × (c.taken < length c.results)
+  CanSettle c (event.Admitted b) = c.taken + 1 < 2 ^ 32
+  CanSettle c event.Ended = ⊤
 
-abbrev pub CanSettle : Course → Event → Type 0
-CanSettle c event.Refused = HasNext c
-CanSettle c (event.Published place) = HasNext c
-CanSettle c (event.Admitted place stood) = HasNext c
-CanSettle c event.Ended = Unit {0}
+  -- the work of the batch under way
 
--- answers
+  abbrev pub CanWorkIn : Progress L → Option Fails → Type 0
+  CanWorkIn progress.Fresh plan = ⊤
+  CanWorkIn progress.Ready plan = ⊤
+  CanWorkIn (progress.Prepared p) plan = ⊤
+  CanWorkIn (progress.Open b) plan = IsPlanOf b.loaded b.lane plan
 
--- an admitted batch's result has an outcome for each zone that is prepared
-abbrev pub FitsResult : PreparedOf → List StoodOf → StepResult → Type 0
-FitsResult p stood (Published place) = Unit {0}
-FitsResult p stood Unpublished = Unit {0}
-FitsResult p stood (Admitted place outcomes) = FitZones (length outcomes) p stood
-FitsResult p stood (Unadmitted outcomes) = Unit {0}
+  -- it was worked on, and nothing else changed
+  abbrev pub HasFlown : BatchOf → Course L → Course L → Type 0
+  HasFlown b c d = (x : BatchOf) × (d ≡ record c { progress = progress.Open x }) × (x ≡ record b { pending = false; untold = x.untold })
 
--- an admitted batch's result keeps its place, and its outcomes stay right
-abbrev pub HasAnswered : PreparedOf → List StoodOf → StepResult → StepResult → Type 0
-HasAnswered p stood (Published place) new = new ≡ Published place
-HasAnswered p stood Unpublished new = new ≡ Unpublished
-HasAnswered p stood (Admitted place outcomes) new = (answered : List _) × (new ≡ Admitted place answered) × KeepOutcomes p stood outcomes answered
-HasAnswered p stood (Unadmitted outcomes) new = new ≡ Unadmitted outcomes
+  abbrev pub HasWorkedIn : Progress L → Course L → Course L → Type 0
+  HasWorkedIn progress.Fresh c d = d ≡ c
+  HasWorkedIn progress.Ready c d = d ≡ c
+  HasWorkedIn (progress.Prepared p) c d = d ≡ c
+  HasWorkedIn (progress.Open b) c d = HasFlown b c d
 
-abbrev pub FitsAt : PreparedOf → List StoodOf → Option StepResult → Type 0
-FitsAt p stood None = ⊥
-FitsAt p stood (Some r) = FitsResult p stood r
+  abbrev pub HasWorked : Course L → Course L → Type 0
+  HasWorked c d = HasWorkedIn c.progress c d
 
-abbrev pub MayEvaluateBy : Course → Progress → Type 0
-MayEvaluateBy c progress.Fresh = Unit {0}
-MayEvaluateBy c progress.Ready = Unit {0}
-MayEvaluateBy c (progress.Prepared prepared) = Unit {0}
-MayEvaluateBy c (progress.Admitted prepared stood) = (0 < c.taken) × FitsAt prepared stood (slice_get c.results (c.taken - 1))
+  -- its turn
 
-abbrev pub MayEvaluate : Course → Type 0
-MayEvaluate c = MayEvaluateBy c c.progress
+  abbrev pub CanGoOn : LoadedFiles → LoadedFiles → List Entry → Progress L → Type 0
+  CanGoOn l desk journal progress.Fresh = ⊤
+  CanGoOn l desk journal progress.Ready = ⊤
+  CanGoOn l desk journal (progress.Prepared p) = ⊤
+  CanGoOn l desk journal (progress.Open b) = CanTurn l desk journal b
 
-abbrev pub AnsweredAt : PreparedOf → List StoodOf → Option StepResult → StepResult → Type 0
-AnsweredAt p stood None new = ⊥
-AnsweredAt p stood (Some old) new = HasAnswered p stood old new
+  abbrev pub IsShut : Progress L → Type 0
+  IsShut progress.Fresh = Unit {0}
+  IsShut progress.Ready = Unit {0}
+  IsShut (progress.Prepared p) = Unit {0}
+  IsShut (progress.Open b) = ⊥
 
--- the last step's result is answered
-pub record AnswersLast (p : PreparedOf) (stood : List StoodOf) (c d : Course) : Type 0 where
-  pub answered : StepResult
-  pub is : d ≡ record c { results = slice_set c.results (c.taken - 1) answered; progress = progress.Fresh }
-  pub from : AnsweredAt p stood (slice_get c.results (c.taken - 1)) answered
+  pub record HasGoneOn (c : Course L) (old : List Entry) (d : Course L) (new : List Entry) (t : Turned) : Type 0 where
+    pub before : BatchOf
+    pub behind : BatchOf
+    pub was : c.progress ≡ progress.Open before
+    pub is : d ≡ record c { progress = progress.Open behind }
+    pub turned : IsTurned before behind old new t
+    pub stands : StandsAt behind
 
-abbrev pub HasEvaluatedBy : Progress → Course → Course → Type 0
-HasEvaluatedBy progress.Fresh c d = d ≡ c
-HasEvaluatedBy progress.Ready c d = d ≡ c
-HasEvaluatedBy (progress.Prepared prepared) c d = d ≡ c
-HasEvaluatedBy (progress.Admitted prepared stood) c d = AnswersLast prepared stood c d
+  pub record HasNoBatch (c : Course L) (old : List Entry) (d : Course L) (new : List Entry) : Type 0 where
+    pub shut : IsShut c.progress
+    pub is : d ≡ c
+    pub journal : new ≡ old
 
-abbrev pub HasEvaluated : Course → Course → Type 0
-HasEvaluated c d = HasEvaluatedBy c.progress c d
+  abbrev pub GoesOnAs : Course L → List Entry → Course L → List Entry → Option Turned → Type 0
+  GoesOnAs c old d new None = HasNoBatch c old d new
+  GoesOnAs c old d new (Some t) = HasGoneOn c old d new t
 
--- preparations
+  -- its end
 
--- the next step, which this says, was prepared if it wasn't looked at
-abbrev pub HasPreparedBy : List Heading → Option Step → Progress → Course → Course → Type 0
-HasPreparedBy schemas s progress.Fresh c d = (p : Progress) × IsProgressFor schemas s p × (d ≡ record c { progress = p })
-HasPreparedBy schemas s progress.Ready c d = d ≡ c
-HasPreparedBy schemas s (progress.Prepared prepared) c d = d ≡ c
-HasPreparedBy schemas s (progress.Admitted prepared stood) c d = d ≡ c
+  abbrev pub CanEndIn : ℕ → List StepResult → Progress L → Type 0
+  CanEndIn taken results progress.Fresh = ⊤
+  CanEndIn taken results progress.Ready = ⊤
+  CanEndIn taken results (progress.Prepared p) = ⊤
+  CanEndIn taken results (progress.Open b) = CanEndWith taken results b
 
-abbrev pub HasPrepared : LoadedFiles → ℕ → Course → Course → Type 0
-HasPrepared l lane c d = HasPreparedBy l.script.schemas (step_of l.script.lanes lane (c.taken + 1)) c.progress c d
+  abbrev pub CanEnd : Course L → Type 0
+  CanEnd c = CanEndIn c.taken c.results c.progress
+
+  -- the batch is closed, and the lane is free
+  pub record HasAnswered (b : BatchOf) (c d : Course L) : Type 0 where
+    pub result : StepResult
+    pub closed : HasClosedAs b result
+    pub is : d ≡ record c { results = slice_set c.results (c.taken - 1) result; progress = progress.Fresh }
+    pub free : is_free (work_of (after b.loaded b.seen) b.lane) ≡ true
+
+  abbrev pub HasEndedIn : Progress L → Course L → Course L → Type 0
+  HasEndedIn progress.Fresh c d = d ≡ c
+  HasEndedIn progress.Ready c d = d ≡ c
+  HasEndedIn (progress.Prepared p) c d = d ≡ c
+  HasEndedIn (progress.Open b) c d = MatchBool b.over (HasAnswered b c d) (d ≡ c)
+
+  abbrev pub HasEnded : Course L → Course L → Type 0
+  HasEnded c d = HasEndedIn c.progress c d
+
+  -- the preparation of the next step
+
+  abbrev pub HasPreparedBy : LoadedFiles → ℕ → Progress L → Course L → Course L → Type 0
+  HasPreparedBy l lane progress.Fresh c d = (p : Progress L) × IsPreparedFor l lane (c.taken + 1) p × (d ≡ record c { progress = p })
+  HasPreparedBy l lane progress.Ready c d = d ≡ c
+  HasPreparedBy l lane (progress.Prepared p) c d = d ≡ c
+  HasPreparedBy l lane (progress.Open b) c d = d ≡ c
+
+  abbrev pub HasPrepared : LoadedFiles → ℕ → Course L → Course L → Type 0
+  HasPrepared l lane c d = HasPreparedBy l lane c.progress c d

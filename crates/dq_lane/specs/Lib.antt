@@ -1,7 +1,10 @@
-pub mod Answering
+pub mod Closing
 pub mod Courses
 pub mod Events
 pub mod Kept
+pub mod Order
+pub mod Progress
+pub mod Refusals
 pub mod Right
 pub mod Turns
 pub mod View

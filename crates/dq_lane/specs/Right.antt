@@ -1,19 +1,23 @@
 -- When the results of a lane are right.
-use Rattle.std.specs.Prelude.{◌≡◌, ℕ, List, length, take}
-use Rattle.std.specs.List.{flat_map}
+use Rattle.std.specs.Prelude.{◌≡◌, ℕ, true, List, ◌++◌, length, take}
 use Rattle.dq_extract.specs.Loads.{LoadedFiles}
-use Rattle.dq_journal.specs.Right.{AreResults, IsLaneRight, done_from, entries_of, step_in}
+use Rattle.dq_fates.specs.GoingOn.{GoesOn}
 use Rattle.dq_journal.specs.declared.entry.Entry.{Entry}
 use Rattle.dq_journal.specs.declared.result.StepResult.{StepResult}
-use Rattle.dq_desk.specs.Machine.{Legal}
-use Rattle.dq_desk.specs.Others.{GoesOn}
+use Rattle.dq_machine.specs.Machine.{legal}
+use Rattle.dq_machine.specs.Order.{lane_keeps}
+use Rattle.dq_machine.specs.Right.{AreResults}
 use Rattle.dq_lane.specs.View.{steps_of}
 
--- results of all its steps, right for every legal journal that goes on from this one without the lane
-pub record AreRightFrom (l : LoadedFiles) (lane : ℕ) (seen : List Entry) (results : List StepResult) : Type 0 where
-  pub on : (journal : List Entry) → Legal l journal → GoesOn lane seen journal → IsLaneRight l journal lane (steps_of l lane) results
+-- right for a journal, which keeps the lane's order
+pub record IsLaneRight (l : LoadedFiles) (journal : List Entry) (lane : ℕ) (results : List StepResult) : Type 0 where
+  pub right : AreResults l journal lane (steps_of l lane) results
+  pub keeps : lane_keeps journal lane (steps_of l lane) results ≡ true
 
--- results of the lane's first steps: right for every such journal, and told in the order of the lane's entries
-pub record AreRightSoFar (l : LoadedFiles) (lane : ℕ) (seen : List Entry) (results : List StepResult) : Type 0 where
-  pub on : (journal : List Entry) → Legal l journal → GoesOn lane seen journal → AreResults l journal lane 1 (take (length results) (steps_of l lane)) results
-  pub order : flat_map step_in (entries_of lane seen) ≡ done_from 1 results
+-- results of all its steps, right for every legal journal that goes on from this one without the lane
+pub record IsRightFrom (l : LoadedFiles) (lane : ℕ) (seen : List Entry) (results : List StepResult) : Type 0 where
+  pub on : (journal : List Entry) → legal l journal ≡ true → GoesOn lane seen journal → IsLaneRight l journal lane results
+
+-- results of the lane's first steps, right for every legal journal that goes on from this one
+pub record IsRightSoFar (l : LoadedFiles) (lane : ℕ) (seen : List Entry) (results : List StepResult) : Type 0 where
+  pub on : (more : List Entry) → legal l (seen ++ more) ≡ true → AreResults l (seen ++ more) lane (take (length results) (steps_of l lane)) results

@@ -1,60 +1,60 @@
-ghost use Rattle.std.specs.Prelude.{◌≡◌, ◌+◌, ◌^◌, ◌<◌};
-ghost use Rattle.dq_lane.specs.Courses.{CanSettle, FitsResult, HasAnswered, HasEvaluated, HasPrepared, MayEvaluate, admitted_at, settled, with_stood};
+ghost use Rattle.std.specs.Prelude.{◌≡◌, ◌+◌, ◌^◌, ◌<◌, take};
+ghost use Rattle.dq_bring.specs.Dials.{UndialledBy};
+ghost use Rattle.dq_batch.specs.Turns.{IsTurned};
+ghost use Rattle.dq_lane.specs.Courses.{CanEnd, CanGoOn, CanSettle, CanTurn, CanWorkIn, GoesOnAs, HasEnded, HasPrepared, HasWorked, StandsAt, settled};
+ghost use Rattle.dq_lane.specs.View.{closed_by, closed_of, is_untold};
 
-use crate::answering::answer_zones;
+use crate::closing::close;
 use crate::event::Event;
 use crate::preparing::next_progress;
 use crate::progress::Progress;
-use dq_desk::{Prepared, Stoods};
+use dq_batch::{Batch, Turned};
+use dq_desk::Desk;
 use dq_extract::Loaded;
 use dq_journal::{LaneResults, StepResult};
+use dq_link::{Dialer, Link};
+use dq_outside::Gate;
 use std::alloc::Global;
 use std::mem::replace;
 
-/// How far a lane is. There is a result for each of its steps; those to come are as if they were refused.
+/// How far a lane is. There is a result for each of its steps; those to come, and that of the batch under way, are as if they were
+/// refused.
 #[derive(Drop)]
-pub(crate) struct Course {
+pub(crate) struct Course<L: Link> {
     /// Its End stands in the journal.
     pub(crate) done: bool,
     /// The steps that had their turn.
     pub(crate) taken: u32,
     pub(crate) results: LaneResults,
-    pub(crate) progress: Progress,
+    pub(crate) progress: Progress<L>,
 }
 
-// The result of a refused batch as that of an admitted one.
-fn admitted(refused: StepResult, place: u64) -> StepResult
-    ensures { result ≡ admitted_at place refused }
+/// A turn of a batch under way, and where it stands behind it.
+fn turn<L: Link>(batch: &mut Batch<L>, loaded: &Loaded, desk: &mut Desk<L>) -> Turned
+    requires { CanTurn loaded.now desk.old.loaded desk.old.journal batch.old }
+    ensures turned { IsTurned batch.old batch.new desk.old.journal desk.new.journal result }
+    ensures stands { StandsAt batch.new }
+    ensures loaded { desk.new.loaded ≡ desk.old.loaded }
 {
-    match refused {
-        StepResult::Unadmitted(outcomes) => StepResult::Admitted(place, outcomes),
-        other => other,
-    }
+    let turned = batch.step(loaded, desk);
+    // What the batch keeps is told to the proof by this read alone.
+    let _over = batch.is_over();
+    turned
 }
 
-// A prepared batch as an admitted one.
-fn underway(progress: Progress, stood: Stoods) -> Progress
-    ensures { result ≡ with_stood progress stood }
+/// How many steps are behind a lane of which so many had their turn.
+fn closed<L: Link>(taken: u32, progress: &Progress<L>) -> u64
+    ensures { result ≡ closed_by taken progress.now }
 {
     match progress {
-        Progress::Prepared(prepared) => Progress::Admitted(prepared, stood),
-        other => other,
+        Progress::Open(_) => u64::from(taken).saturating_sub(1),
+        Progress::Fresh | Progress::Ready | Progress::Prepared(_) => u64::from(taken),
     }
 }
 
-// Answers the zones of an admitted batch.
-fn answer_step(alloc: Global, prepared: &Prepared, stood: &Stoods, batch: &mut StepResult)
-    requires { FitsResult prepared.now stood.now batch.old }
-    ensures { HasAnswered prepared.now stood.now batch.old batch.new }
-{
-    if let StepResult::Admitted(_, outcomes) = batch {
-        answer_zones(alloc, prepared, stood, outcomes);
-    }
-}
-
-impl Course {
-    // The next step had its turn.
-    fn advance(&mut self, progress: Progress)
+impl<L: Link> Course<L> {
+    /// The next step had its turn.
+    fn advance(&mut self, progress: Progress<L>)
         requires { self.old.taken + 1 < 2 ^ 32 }
         ensures { self.new ≡ record self.old { taken = self.old.taken + 1; progress = progress } }
     {
@@ -63,7 +63,7 @@ impl Course {
     }
 
     /// Takes in what a turn brought about.
-    pub(crate) fn settle(&mut self, event: Event)
+    pub(crate) fn settle(&mut self, event: Event<L>)
         requires { CanSettle self.old event }
         ensures { self.new ≡ settled self.old event }
     {
@@ -73,13 +73,7 @@ impl Course {
                 *self.results.item_mut(u64::from(self.taken)) = StepResult::Published(place);
                 self.advance(Progress::Fresh);
             }
-            Event::Admitted(place, stood) => {
-                let slot = self.results.item_mut(u64::from(self.taken));
-                let refused = replace(slot, StepResult::Unpublished);
-                *slot = admitted(refused, place);
-                let prepared = replace(&mut self.progress, Progress::Fresh);
-                self.advance(underway(prepared, stood));
-            }
+            Event::Admitted(batch) => self.advance(Progress::Open(batch)),
             Event::Ended => {
                 self.done = true;
                 self.progress = Progress::Ready;
@@ -87,16 +81,64 @@ impl Course {
         }
     }
 
-    /// Answers the zones of the batch that was admitted last, if they aren't answered.
-    pub(crate) fn evaluate(&mut self, alloc: Global)
-        requires { MayEvaluate self.old }
-        ensures { HasEvaluated self.old self.new }
+    /// The statement of the flight that the lane brings.
+    pub(crate) fn fly<G: Gate, D: Dialer<L = L>>(&mut self, alloc: Global, gate: &G, dialer: &mut D)
+        requires can { CanWorkIn self.old.progress (D.plan dialer.old) }
+        ensures worked { HasWorked self.old self.new }
+        ensures dials { UndialledBy (is_untold self.old.progress) (is_untold self.new.progress) (D.faults dialer.old) (D.faults dialer.new) }
+        ensures plan { D.plan dialer.new ≡ D.plan dialer.old }
     {
-        if let Progress::Admitted(prepared, stood) = &self.progress {
-            let batch = self.results.item_mut(u64::from(self.taken) - 1);
-            answer_step(alloc, prepared, stood, batch);
-            self.progress = Progress::Fresh;
+        if let Progress::Open(batch) = &mut self.progress {
+            batch.work(alloc, gate, dialer);
         }
+    }
+
+    /// The next event of the batch under way; none exactly where there is none.
+    pub(crate) fn go_on(&mut self, loaded: &Loaded, desk: &mut Desk<L>) -> Option<Turned>
+        requires { CanGoOn loaded.now desk.old.loaded desk.old.journal self.old.progress }
+        ensures gone { GoesOnAs self.old desk.old.journal self.new desk.new.journal result }
+        ensures loaded { desk.new.loaded ≡ desk.old.loaded }
+    {
+        let Progress::Open(batch) = &mut self.progress else {
+            return None;
+        };
+        Some(turn(batch, loaded, desk))
+    }
+
+    /// Answers the zones of the batch under way, if it is over.
+    pub(crate) fn end(&mut self, alloc: Global)
+        requires { CanEnd self.old }
+        ensures { HasEnded self.old self.new }
+    {
+        match replace(&mut self.progress, Progress::Fresh) {
+            Progress::Open(batch) => {
+                if !batch.is_over() {
+                    self.progress = Progress::Open(batch);
+                    return;
+                }
+                close(
+                    alloc,
+                    self.results.item_mut(u64::from(self.taken) - 1),
+                    batch,
+                );
+            }
+            other => self.progress = other,
+        }
+    }
+
+    /// The results of the steps behind the lane.
+    pub(crate) fn into_closed(self) -> LaneResults
+        ensures { result ≡ take (closed_of self) self.results }
+    {
+        let Course {
+            done: _,
+            taken,
+            results,
+            progress,
+        } = self;
+        let mut results = results;
+        results.truncate(closed(taken, &progress));
+        results
     }
 
     /// Prepares the next step, if it wasn't looked at.

@@ -1,16 +1,25 @@
-//! The lane of a run: one session, which plays the steps of its lane in order on the desk.
+//! A lane: one session, whose steps are batches and refreshes, done in order.
 //!
-//! A turn brings about at most one event. What takes time stands outside of the turns: `work` prepares the next batch, and
-//! answers the zones of a batch that was admitted, over what stood of each zone's source at its admission. The layer above may
-//! rely on this: a lane's results are right for every legal journal that goes on from the journal of its last event, its
-//! entries there are its steps in order without the refused ones, and its End comes behind its last step. Where memory is
-//! wanting, the step is refused or the zone is `Memory`, and the lane goes on. Contracts see the places of the entries that its
-//! steps have, from which the order of the turns can be told.
+//! `Lane` has three parts: the results of the steps behind it, which are right for every legal journal that goes on from here; the batch
+//! under way, if there is one (`Batch` of dq_batch); and what is prepared of the next step. What it keeps (`specs/Kept.antt`): its
+//! results, the order of its entries and their places, that its dialer counted the dials that failed, and that this dialer's plan is the
+//! script's. `work` does what needs no turn, `step` is one event at the desk.
 //!
-//! A turn of a lane: `lane.work(alloc)`, and then `lane.step(alloc, &mut desk)`. Once that answers `Done`, `lane.into_results()`.
+//! ```text
+//! let mut lane = Lane::new(alloc, 1, loaded, dialer)?;
+//! loop {
+//!     lane.work(alloc, &gate);
+//!     match lane.step(alloc, &mut desk) {
+//!         Stepped::Moved => ..,
+//!         Stepped::Waits(flight) => ..,
+//!         Stepped::Done => break,
+//!     }
+//! }
+//! let (results, dialer) = lane.into_results();
+//! ```
 #![tactic(auto)]
 
-mod answering;
+mod closing;
 mod course;
 mod event;
 mod lane;

@@ -1,14 +1,15 @@
-use dq_desk::{Prepared, Stoods};
+use dq_batch::{Batch, Preparation};
+use dq_link::Link;
 
 /// How far a lane is.
 #[derive(Drop)]
-pub(crate) enum Progress {
+pub(crate) enum Progress<L: Link> {
     /// The next step wasn't looked at.
     Fresh,
     /// Nothing is to be done before the next turn.
     Ready,
     /// The next step is a batch, and this is its preparation.
-    Prepared(Prepared),
-    /// The last step is an admitted batch whose zones aren't answered: its preparation, and what stands of its sources.
-    Admitted(Prepared, Stoods),
+    Prepared(Preparation),
+    /// The last step is a batch that was admitted.
+    Open(Batch<L>),
 }

@@ -1,35 +1,12 @@
 ghost use Rattle.std.specs.Prelude.{IfOk};
-ghost use Rattle.dq_base.specs.Validity.{invalid_by};
-ghost use Rattle.dq_journal.specs.Right.{AreRefused, IsRefused};
-ghost use Rattle.dq_lane.specs.Kept.{AreRefusals, IsRefusal};
+ghost use Rattle.dq_lane.specs.Refusals.{AreRefusals, IsRefusal};
 
-use dq_base::{List, Memory, Query, Schemas, Step};
-use dq_journal::{LaneResults, StepResult, ZoneResult, ZoneResults};
-use dq_query::check;
+use dq_base::{List, Memory, Schemas, Step};
+use dq_journal::{LaneResults, StepResult};
+use dq_zones::refused_zones;
 use std::alloc::Global;
 
-// The outcome of a zone whose batch is refused.
-fn refused_zone(schemas: &Schemas, q: &Query) -> ZoneResult
-    ensures { IsRefused (invalid_by schemas.now q.now) result }
-{
-    match check(schemas, q) {
-        Ok(()) => ZoneResult::Memory,
-        Err(reason) => ZoneResult::Invalid(reason),
-    }
-}
-
-// The outcomes of a refused batch's zones, in order.
-fn refused_zones(alloc: Global, schemas: &Schemas, zones: &[Query]) -> Result<ZoneResults, Memory>
-    ensures { IfOk result (λ outcomes. AreRefused schemas.now zones.now outcomes) }
-{
-    let mut outcomes = List::with_capacity(alloc, zones.len() as u64)?;
-    for q in zones {
-        outcomes.push(refused_zone(schemas, q))?;
-    }
-    Ok(outcomes)
-}
-
-// The result of a refused step.
+/// The result of a refused step.
 fn refused_step(alloc: Global, schemas: &Schemas, step: &Step) -> Result<StepResult, Memory>
     ensures { IfOk result (λ refusal. IsRefusal schemas.now step.now refusal) }
 {

@@ -1,6 +1,6 @@
 ghost use Rattle.std.specs.Prelude.{◌≡◌, ◌≢◌, ◌<◌, ◌++◌, [], ◌∷◌, true};
 ghost use Rattle.dq_journal.specs.Journals.{lane_of};
-ghost use Rattle.dq_journal.specs.Right.{entries_of};
+ghost use Rattle.dq_journal.specs.Steps.{entries_of};
 ghost use Rattle.dq_laws.specs.Flying.{OwnStay};
 ghost use Rattle.dq_machine.specs.Machine.{after, legal};
 ghost use Rattle.dq_machine.specs.State.{work_of};

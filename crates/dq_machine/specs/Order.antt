@@ -7,7 +7,7 @@ use Rattle.dq_base.specs.declared.script.Step.{Step}
 use Rattle.dq_base.specs.declared.script.Step.TheVariants as step
 use Rattle.dq_extract.specs.Loads.{LoadedFiles}
 use Rattle.dq_journal.specs.Journals.{lane_of}
-use Rattle.dq_journal.specs.Right.{done_from, entries_of, is_end, step_in, steps_named}
+use Rattle.dq_journal.specs.Steps.{done_from, entries_of, is_end, step_in, steps_named}
 use Rattle.dq_journal.specs.declared.entry.Entry.{Entry}
 use Rattle.dq_journal.specs.declared.entry.Entry.TheVariants.{Publish, Admit, Lease, Give, Lose, Land, Fall, Take, End}
 use Rattle.dq_journal.specs.declared.result.StepResult.{StepResult}

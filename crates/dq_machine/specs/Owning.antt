@@ -7,7 +7,7 @@ use Rattle.dq_base.specs.Scripts.{numbered}
 use Rattle.dq_base.specs.declared.query.Query.{Query}
 use Rattle.dq_base.specs.declared.canon.Role.{Role}
 use Rattle.dq_base.specs.declared.canon.Role.TheVariants.{Remote, Local}
-use Rattle.dq_journal.specs.Right.{entries_of}
+use Rattle.dq_journal.specs.Steps.{entries_of}
 use Rattle.dq_journal.specs.declared.entry.Cause.{Cause}
 use Rattle.dq_journal.specs.declared.entry.Cause.TheVariants as cause
 use Rattle.dq_journal.specs.declared.entry.Met.{Met}

@@ -10,7 +10,7 @@ use Rattle.dq_base.specs.declared.query.Query.{Query}
 use Rattle.dq_base.specs.declared.script.Step.{Step}
 use Rattle.dq_base.specs.declared.script.Step.TheVariants as step
 use Rattle.dq_extract.specs.Loads.{LoadedFiles}
-use Rattle.dq_journal.specs.Right.{AreRefused}
+use Rattle.dq_journal.specs.Steps.{AreRefused}
 use Rattle.dq_journal.specs.Standing.{Rows, stand}
 use Rattle.dq_journal.specs.declared.entry.Entry.{Entry}
 use Rattle.dq_journal.specs.declared.result.ZoneResult.{ZoneResult}

@@ -1,5 +1,8 @@
-pub mod Turned
+pub mod Moved
 pub mod New
-pub mod Walked
+pub mod Over
+pub mod Passing
 pub mod Plays
-pub mod Gathered
+pub mod Results
+pub mod Turned
+pub mod Walked

@@ -1,18 +1,24 @@
 -- The journal follows the turns so far.
-use Rattle.std.proofs.Common.{◌≡◌, ◌≢◌, ℕ, zero, suc, ◌+◌, ◌-◌, ◌<◌, ◌≤◌, Bool, true, false, List, [], ◌∷◌, ◌++◌, map, length, get_or, slice_get, slice_set, length-set, replicate, Option, Some, None, ◌⊎◌, inl, inr, refl, ap, sym, ◌∙◌, subst, arith, append_assoc, append-nil, length-append}
+use Rattle.std.proofs.Common.{◌≡◌, ◌≢◌, ℕ, zero, suc, ◌+◌, ◌-◌, ◌<◌, ◌≤◌, Bool, true, false, ◌&&◌, List, [], ◌∷◌, ◌++◌, map, length, get_or, slice_get, slice_set, length-set, replicate, Option, Some, None, ◌⊎◌, inl, inr, refl, ap, sym, ◌∙◌, subst, arith, append_assoc, append-nil, length-append}
 use Rattle.std.proofs.lemmas.List.{get_or-set_same, get_or-set_other, set-get_or}
 use Rattle.std.specs.List.{range_with_len}
 use Rattle.dq_extract.specs.Loads.{LoadedFiles}
+use Rattle.dq_journal.specs.Journals.{lane_of}
+use Rattle.dq_journal.specs.Steps.{is_end, step_in}
+use Rattle.dq_laws.proofs.Pushed.{pushed}
+use Rattle.dq_machine.proofs.Reached.{and_both}
 use Rattle.dq_journal.specs.declared.entry.Entry.{Entry}
 use Rattle.dq_journal.specs.declared.entry.Entry.TheVariants.{End}
-use Rattle.dq_desk.specs.Machine.{after}
-use Rattle.dq_desk.specs.State.{work_of}
-use Rattle.dq_lane.specs.Turns.{Moves}
+use Rattle.dq_machine.specs.Machine.{after, legal}
+use Rattle.dq_machine.specs.State.{Work, State, is_free, work_of}
+use Rattle.dq_machine.specs.Taking.{waits}
+use Rattle.dq_lane.specs.Turns.{Begins, Ends, GoesAhead, Moves, Refuses}
 use Rattle.dq_lane.specs.View.{LaneOf, new_lane}
-use Rattle.dq_rehearse.specs.Follows.{Cursor, FollowsTurns, TurnBy, Turn, Walk, at_start, is_refused, next_place, rounds_of, use_up}
+use Rattle.dq_rehearse.specs.Follows.{Cursor, FollowsTurns, TurnBy, Turn, Walk, at_start, is_refused, next_place, passes, rounds_of, use_up}
 use Rattle.dq_rehearse.specs.Lanes.{AreOn, all_new, no_lane, places_in}
-use Rattle.dq_rehearse.specs.Turns.{AreOver, FollowsSoFar, HavePlayed, MayAllEndWith, MayEndWith, Turns, cursor, used_len}
+use Rattle.dq_rehearse.specs.Turns.{AreOver, FollowsSoFar, HavePlayed, MayAllEndWith, MayEndWith, Turns, cursor, passes_at, used_len}
 use Rattle.dq_rehearse.proofs.New.{range-more}
+use Rattle.dq_rehearse.proofs.Passing.{Goes, first_false, free_goes, goes_by, second_false}
 use Rattle.dq_rehearse.proofs.Turned.{decide}
 
 -- lists
@@ -50,38 +56,76 @@ used_is : (l : LoadedFiles) (old : List Entry) (lanes : List LaneOf) (i count : 
     → slice_set (map used_len lanes) i (used_len w) ≡ use_up (cursor old lanes) (i + 1) count
 used_is l old lanes i count v w lt at e = let place : i + 1 - 1 ≡ i = omega arith in rw (place, used_at l lanes i lt, at, e) refl
 
-turn_going : (l : LoadedFiles) (places : List (List (Option ℕ))) (c : Cursor) (lane : ℕ) (d : Cursor) (refused : Bool) → (work_of (after l c.journal) lane).ended ≡ false → is_refused (next_place places c lane) ≡ refused
+going : (s : State) (w : Work) → w.ended ≡ false → waits s w ≡ false → passes s w ≡ false
+going s w ended goes = rw (ended, goes) refl
+
+turn_going : (l : LoadedFiles) (places : List (List (Option ℕ))) (c : Cursor) (lane : ℕ) (d : Cursor) (refused : Bool) → passes_at l c.journal lane ≡ false
+    → (is_free (work_of (after l c.journal) lane) && is_refused (next_place places c lane)) ≡ refused
     → TurnBy false refused c lane d → Turn l places c lane d
 turn_going l places c lane d refused e r t = rw (e, r) t
 
-turn_passes : (l : LoadedFiles) (places : List (List (Option ℕ))) (c : Cursor) (lane : ℕ) (d : Cursor) → (work_of (after l c.journal) lane).ended ≡ true → d ≡ c → Turn l places c lane d
+turn_passes : (l : LoadedFiles) (places : List (List (Option ℕ))) (c : Cursor) (lane : ℕ) (d : Cursor) → passes_at l c.journal lane ≡ true → d ≡ c → Turn l places c lane d
 turn_passes l places c lane d e t = rw e t
 
 -- the cursor behind the turn of a lane
 abbrev behind : List Entry → List LaneOf → ℕ → LaneOf → Cursor
 behind new lanes i w = record { journal = new; used = slice_set (map used_len lanes) i (used_len w) }
 
+-- the lane that has an entry didn't pass
+entry_goes : (l : LoadedFiles) (old new : List Entry) (e : Entry) (lane : ℕ) → legal l new ≡ true → new ≡ old ++ e ∷ [] → lane_of e ≡ lane → Goes (after l old) (work_of (after l old) lane) (step_in e) (is_end e)
+entry_goes l old new e lane lawful is of_lane =
+    let p = pushed l old e (rw is at lawful) in
+    subst (λ n. Goes (after l old) (work_of (after l old) n) (step_in e) (is_end e)) of_lane (goes_by l (after l old) e p.allowed)
+
 -- a turn that moves
-turn_moves : (l : LoadedFiles) (places : List (List (Option ℕ))) (old new : List Entry) (lanes : List LaneOf) (i : ℕ) (v w : LaneOf)
-    → i < length lanes → get_or lanes i (no_lane l) ≡ v → v.number ≡ i + 1 → (work_of (after l old) (i + 1)).ended ≡ false → Moves v w old new → MayEndWith w (get_or places i [])
-    → Turn l places (cursor old lanes) (i + 1) (behind new lanes i w)
-turn_moves l places old new lanes i v w lt at numbered ended (inl m) may =
-    let there : slice_get (get_or places i []) (length v.places) ≡ Some None = rw (may.is, m.places, append_assoc v.places (None ∷ []) may.more) (slice_get-next v.places may.more None) in
-    let longer : used_len w ≡ used_len v + 1 = rw m.places (omega (arith, length-append v.places (None ∷ []))) in
-    turn_going l places (cursor old lanes) (i + 1) _ true ended (ap is_refused (next_is l places old lanes i v (Some None) lt at there))
-    (rw (m.journal, used_is l old lanes i 1 v w lt at longer) refl)
-turn_moves l places old new lanes i v w lt at numbered ended (inr (inl m)) may =
-    let place = Some (length new) in
-    let there : slice_get (get_or places i []) (length v.places) ≡ Some place = rw (may.is, m.places, append_assoc v.places (place ∷ []) may.more) (slice_get-next v.places may.more place) in
-    let longer : used_len w ≡ used_len v + 1 = rw m.places (omega (arith, length-append v.places (place ∷ []))) in
-    turn_going l places (cursor old lanes) (i + 1) _ false ended (ap is_refused (next_is l places old lanes i v (Some place) lt at there))
-    (record { entry = m.entry; of_lane = m.of_lane ∙ numbered; is = rw (m.journal, used_is l old lanes i 1 v w lt at longer, m.names) refl })
-turn_moves l places old new lanes i v w lt at numbered ended (inr (inr m)) may =
-    let none : may.more ≡ [] = may.done m.done in
-    let there : slice_get (get_or places i []) (length v.places) ≡ None = rw (may.is, none, m.places, append-nil v.places) (slice_get-end v.places) in
-    let same : used_len w ≡ used_len v + 0 = rw m.places (omega arith) in
-    turn_going l places (cursor old lanes) (i + 1) _ false ended (ap is_refused (next_is l places old lanes i v None lt at there))
-    (record { entry = End v.number; of_lane = numbered; is = rw (m.journal, used_is l old lanes i 0 v w lt at same) refl })
+module _ (l : LoadedFiles) (places : List (List (Option ℕ))) (old new : List Entry) (lanes : List LaneOf) (i : ℕ) (v w : LaneOf)
+    (lt : i < length lanes) (at : get_or lanes i (no_lane l) ≡ v) (numbered : v.number ≡ i + 1) (loaded : v.loaded ≡ l)
+    (ended : (work_of (after l old) (i + 1)).ended ≡ false) (lawful : legal l new ≡ true) (may : MayEndWith w (get_or places i [])) where
+  turn_refuses : Refuses v w old new → Turn l places (cursor old lanes) (i + 1) (behind new lanes i w)
+  turn_refuses m =
+      let there : slice_get (get_or places i []) (length v.places) ≡ Some None = rw (may.is, m.places, append_assoc v.places (None ∷ []) may.more) (slice_get-next v.places may.more None) in
+      let longer : used_len w ≡ used_len v + 1 = rw m.places (omega (arith, length-append v.places (None ∷ []))) in
+      let free : is_free (work_of (after l old) (i + 1)) ≡ true = subst (λ n. is_free (work_of (after l old) n) ≡ true) numbered (subst (λ f. is_free (work_of (after f old) v.number) ≡ true) loaded m.free) in
+      let next = ap is_refused (next_is l places old lanes i v (Some None) lt at there) in
+      turn_going l places (cursor old lanes) (i + 1) _ true (going (after l old) (work_of (after l old) (i + 1)) ended (free_goes (after l old) (work_of (after l old) (i + 1)) free))
+      (and_both (is_free (work_of (after l old) (i + 1))) (is_refused (next_place places (cursor old lanes) (i + 1))) free next)
+      (rw (m.journal, used_is l old lanes i 1 v w lt at longer) refl)
+
+  turn_begins : Begins v w old new → Turn l places (cursor old lanes) (i + 1) (behind new lanes i w)
+  turn_begins m =
+      let place = Some (length new) in
+      let there : slice_get (get_or places i []) (length v.places) ≡ Some place = rw (may.is, m.places, append_assoc v.places (place ∷ []) may.more) (slice_get-next v.places may.more place) in
+      let longer : used_len w ≡ used_len v + 1 = rw m.places (omega (arith, length-append v.places (place ∷ []))) in
+      let goes = entry_goes l old new m.entry (i + 1) lawful m.journal (m.of_lane ∙ numbered) in
+      let next = ap is_refused (next_is l places old lanes i v (Some place) lt at there) in
+      turn_going l places (cursor old lanes) (i + 1) _ false (going (after l old) (work_of (after l old) (i + 1)) ended goes.goes)
+      (second_false (is_free (work_of (after l old) (i + 1))) (is_refused (next_place places (cursor old lanes) (i + 1))) next)
+      (record { entry = m.entry; of_lane = m.of_lane ∙ numbered; is = rw (m.journal, used_is l old lanes i 1 v w lt at longer, m.names) refl })
+
+  turn_goes_ahead : GoesAhead v w old new → Turn l places (cursor old lanes) (i + 1) (behind new lanes i w)
+  turn_goes_ahead m =
+      let same : used_len w ≡ used_len v + 0 = rw m.places (omega arith) in
+      let goes = entry_goes l old new m.entry (i + 1) lawful m.journal (m.of_lane ∙ numbered) in
+      turn_going l places (cursor old lanes) (i + 1) _ false (going (after l old) (work_of (after l old) (i + 1)) ended goes.goes)
+      (first_false (is_free (work_of (after l old) (i + 1))) (is_refused (next_place places (cursor old lanes) (i + 1))) (goes.opens m.names m.goes))
+      (record { entry = m.entry; of_lane = m.of_lane ∙ numbered; is = rw (m.journal, used_is l old lanes i 0 v w lt at same, m.names) refl })
+
+  turn_ends : Ends v w old new → Turn l places (cursor old lanes) (i + 1) (behind new lanes i w)
+  turn_ends m =
+      let none : may.more ≡ [] = may.done m.done in
+      let there : slice_get (get_or places i []) (length v.places) ≡ None = rw (may.is, none, m.places, append-nil v.places) (slice_get-end v.places) in
+      let same : used_len w ≡ used_len v + 0 = rw m.places (omega arith) in
+      let goes = entry_goes l old new (End v.number) (i + 1) lawful m.journal numbered in
+      let next = ap is_refused (next_is l places old lanes i v None lt at there) in
+      turn_going l places (cursor old lanes) (i + 1) _ false (going (after l old) (work_of (after l old) (i + 1)) ended goes.goes)
+      (second_false (is_free (work_of (after l old) (i + 1))) (is_refused (next_place places (cursor old lanes) (i + 1))) next)
+      (record { entry = End v.number; of_lane = numbered; is = rw (m.journal, used_is l old lanes i 0 v w lt at same) refl })
+
+  turn_moves : Moves v w old new → Turn l places (cursor old lanes) (i + 1) (behind new lanes i w)
+  turn_moves (inl m) = turn_refuses m
+  turn_moves (inr (inl m)) = turn_begins m
+  turn_moves (inr (inr (inl m))) = turn_goes_ahead m
+  turn_moves (inr (inr (inr m))) = turn_ends m
 
 -- what the lane may end with behind its turn, it might before
 
@@ -95,21 +139,22 @@ earlier v w tail places going e m = record {
 earlier_by : (v w : LaneOf) (old new : List Entry) (places : List (Option ℕ)) → v.done ≡ false → Moves v w old new → MayEndWith w places → MayEndWith v places
 earlier_by v w old new places going (inl m) may = earlier v w (None ∷ []) places going m.places may
 earlier_by v w old new places going (inr (inl m)) may = earlier v w (Some (length new) ∷ []) places going m.places may
-earlier_by v w old new places going (inr (inr m)) may = earlier v w [] places going (m.places ∙ sym (append-nil v.places)) may
+earlier_by v w old new places going (inr (inr (inl m))) may = earlier v w [] places going (m.places ∙ sym (append-nil v.places)) may
+earlier_by v w old new places going (inr (inr (inr m))) may = earlier v w [] places going (m.places ∙ sym (append-nil v.places)) may
 
 -- the turn of a lane, and what it might end with before
 
 turn_either : (l : LoadedFiles) (places : List (List (Option ℕ))) (old new : List Entry) (lanes : List LaneOf) (i : ℕ) (v w : LaneOf) (moved : Bool)
-    → i < length lanes → get_or lanes i (no_lane l) ≡ v → v.number ≡ i + 1 → Turns l (i + 1) v w old new moved → MayEndWith w (get_or places i [])
+    → i < length lanes → get_or lanes i (no_lane l) ≡ v → v.number ≡ i + 1 → v.loaded ≡ l → Turns l (i + 1) v w old new moved → MayEndWith w (get_or places i [])
     → Turn l places (cursor old lanes) (i + 1) (behind new lanes i w) × MayEndWith v (get_or places i [])
-turn_either l places old new lanes i v w true lt at numbered t may =
+turn_either l places old new lanes i v w true lt at numbered loaded t may =
     let turn = t.turn in
-    (turn_moves l places old new lanes i v w lt at numbered (t.ended ∙ turn.0) turn.2 may, earlier_by v w old new (get_or places i []) turn.0 turn.2 may)
-turn_either l places old new lanes i v w false lt at numbered t may =
+    (turn_moves l places old new lanes i v w lt at numbered loaded (t.ended ∙ turn.0) t.legal may turn.1, earlier_by v w old new (get_or places i []) turn.0 turn.1 may)
+turn_either l places old new lanes i v w false lt at numbered loaded t may =
     let turn = t.turn in
-    let used : used_len w ≡ get_or (map used_len lanes) i 0 = ap (λ ps. length ps) turn.3 ∙ sym (ap used_len at) ∙ sym (used_at l lanes i lt) in (
-      turn_passes l places (cursor old lanes) (i + 1) _ (t.ended ∙ turn.0) (rw (turn.4, used, set-get_or (map used_len lanes) i 0) refl),
-      record { more = may.more; is = rw (← turn.3) may.is; done = λ e. may.done turn.1 },
+    let used : used_len w ≡ get_or (map used_len lanes) i 0 = ap (λ ps. length ps) turn.2 ∙ sym (ap used_len at) ∙ sym (used_at l lanes i lt) in (
+      turn_passes l places (cursor old lanes) (i + 1) _ turn.0 (rw (turn.3, used, set-get_or (map used_len lanes) i 0) refl),
+      record { more = may.more; is = rw (← turn.2) may.is; done = λ e. may.done (turn.1 ∙ e) },
     )
 
 may_at : (l : LoadedFiles) (lanes : List LaneOf) (places : List (List (Option ℕ))) (i : ℕ) (v w : LaneOf) (k : ℕ) → get_or lanes i (no_lane l) ≡ v → MayEndWith v (get_or places i [])
@@ -120,12 +165,12 @@ may_at l lanes places i v w k at may all le (inr ne) =
     rw (get_or-set_other lanes i k w (no_lane l) ne) at there
 
 pub FollowsSoFar-turn : (l : LoadedFiles) (old new : List Entry) (lanes : List LaneOf) (turns : List ℕ) (i : ℕ) (v w : LaneOf) (moved : Bool)
-    → i < length lanes → get_or lanes i (no_lane l) ≡ v → v.number ≡ i + 1 → Turns l (i + 1) v w old new moved
+    → i < length lanes → get_or lanes i (no_lane l) ≡ v → v.number ≡ i + 1 → v.loaded ≡ l → Turns l (i + 1) v w old new moved
     → FollowsSoFar l old lanes turns → FollowsSoFar l new (slice_set lanes i w) (turns ++ (i + 1) ∷ [])
-FollowsSoFar-turn l old new lanes turns i v w moved lt at numbered t so_far = record {
+FollowsSoFar-turn l old new lanes turns i v w moved lt at numbered loaded t so_far = record {
   walk = λ places all.
       let here : MayEndWith w (get_or places i []) = rw (get_or-set_same lanes i w (no_lane l) lt) at (all.each i (rw (length-set lanes i w) lt)) in
-      let either = turn_either l places old new lanes i v w moved lt at numbered t here in
+      let either = turn_either l places old new lanes i v w moved lt at numbered loaded t here in
       let before : MayAllEndWith l lanes places = record { each = λ k le. may_at l lanes places i v w k at either.1 all le (decide k i) } in
       rw (map-set lanes i w) (Walk-push l places (at_start l) turns (cursor old lanes) (i + 1) _ (so_far.walk places before) either.0);
 }

@@ -1,13 +1,14 @@
 -- The journal follows the turns.
-use Rattle.std.specs.Prelude.{◌≡◌, ℕ, zero, suc, ◌+◌, ◌-◌, ◌<◌, ◌≤◌, Bool, true, false, ◌&&◌, if◌then◌else◌, List, [], ◌∷◌, ◌++◌, length, map, replicate, slice_get, slice_set, slice_index_or, Option, Some, None}
+use Rattle.std.specs.Prelude.{◌≡◌, ℕ, zero, suc, ◌+◌, ◌-◌, ◌<◌, ◌≤◌, Bool, true, false, ◌&&◌, ◌||◌, List, [], ◌∷◌, ◌++◌, length, map, replicate, slice_get, slice_set, slice_index_or, Option, Some, None}
 use Rattle.std.specs.List.{range_with_len}
 use Rattle.dq_extract.specs.Loads.{LoadedFiles}
 use Rattle.dq_journal.specs.Journals.{lane_of}
-use Rattle.dq_journal.specs.Right.{step_in}
+use Rattle.dq_journal.specs.Steps.{step_in}
 use Rattle.dq_journal.specs.declared.entry.Entry.{Entry}
 use Rattle.dq_journal.specs.declared.result.StepResult.{StepResult}
-use Rattle.dq_desk.specs.Machine.{after}
-use Rattle.dq_desk.specs.State.{Work, work_of}
+use Rattle.dq_machine.specs.Machine.{after}
+use Rattle.dq_machine.specs.State.{State, Work, is_free, work_of}
+use Rattle.dq_machine.specs.Taking.{waits}
 use Rattle.dq_lane.specs.View.{place_of}
 
 -- turns
@@ -45,13 +46,9 @@ is_refused None = false
 is_refused (Some None) = true
 is_refused (Some (Some place)) = false
 
--- a turn of the lane passes: it has ended. No lane waits, as no statement is run yet
-abbrev pub passes : Work → Bool
-passes w = w.ended
-
--- nothing of the lane is open, so that its turn is its next step's
-abbrev pub is_free : Work → Bool
-is_free w = if w.ended then false else true
+-- a turn of the lane passes: it has ended, or it waits for another lane's flight
+abbrev pub passes : State → Work → Bool
+passes s w = w.ended || waits s w
 
 -- one more entry, which is the lane's
 pub record HasEntry (c : Cursor) (lane : ℕ) (d : Cursor) : Type 0 where
@@ -65,11 +62,12 @@ TurnBy true refused c lane d = d ≡ c
 TurnBy false true c lane d = d ≡ record { journal = c.journal; used = use_up c lane 1 }
 TurnBy false false c lane d = HasEntry c lane d
 
-abbrev pub TurnOf : Work → Option (Option ℕ) → Cursor → ℕ → Cursor → Type 0
-TurnOf w next c lane d = TurnBy (passes w) (is_free w && is_refused next) c lane d
+-- a refused step has its turn once nothing of the lane is open
+abbrev pub TurnOf : State → Work → Option (Option ℕ) → Cursor → ℕ → Cursor → Type 0
+TurnOf s w next c lane d = TurnBy (passes s w) (is_free w && is_refused next) c lane d
 
 abbrev pub Turn : LoadedFiles → List (List (Option ℕ)) → Cursor → ℕ → Cursor → Type 0
-Turn l places c lane d = TurnOf (work_of (after l c.journal) lane) (next_place places c lane) c lane d
+Turn l places c lane d = TurnOf (after l c.journal) (work_of (after l c.journal) lane) (next_place places c lane) c lane d
 
 abbrev pub Walk : LoadedFiles → List (List (Option ℕ)) → Cursor → List ℕ → Cursor → Type 0
 Walk l places c [] d = d ≡ c

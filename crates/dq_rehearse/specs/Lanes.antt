@@ -3,7 +3,7 @@ use Rattle.std.specs.Prelude.{◌≡◌, ℕ, ◌+◌, ◌<◌, true, List, leng
 use Rattle.std.specs.List.{range_with_len}
 use Rattle.dq_extract.specs.Loads.{LoadedFiles}
 use Rattle.dq_journal.specs.declared.entry.Entry.{Entry}
-use Rattle.dq_desk.specs.Others.{GoesOn}
+use Rattle.dq_fates.specs.GoingOn.{GoesOn}
 use Rattle.dq_lane.specs.View.{LaneOf, new_lane}
 
 -- the lanes of the script, none of which began

@@ -1,4 +1,4 @@
+pub mod Dialled
 pub mod Follows
 pub mod Lanes
-pub mod Legal
 pub mod Turns

@@ -116,7 +116,6 @@ fault_of_all files start now before more rest (fault.File name f) so_far told = 
 fault_of_all files start now before more rest fault.Write so_far told = told
 fault_of_all files start now before more rest fault.Memory so_far told = told
 fault_of_all files start now before more rest (fault.Limit which value) so_far told = refused_first files start now before more rest (fault.Limit which value) so_far told
-fault_of_all files start now before more rest (fault.Unbuilt name) so_far told = refused_first files start now before more rest (fault.Unbuilt name) so_far told
 
 -- nothing is loaded yet
 abbrev pub nothing : Progress
@@ -138,4 +137,3 @@ whole_fault files xs (fault.File name f) told = whole_of files xs (Refused (faul
 whole_fault files xs fault.Write told = told
 whole_fault files xs fault.Memory told = told
 whole_fault files xs (fault.Limit which value) told = whole_of files xs (Refused (fault.Limit which value)) told
-whole_fault files xs (fault.Unbuilt name) told = whole_of files xs (Refused (fault.Unbuilt name)) told

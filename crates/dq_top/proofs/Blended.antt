@@ -11,11 +11,11 @@ use Rattle.dq_journal.specs.declared.result.StepResult.{StepResult}
 use Rattle.dq_journal.specs.declared.result.StepResult.TheVariants.{Published, Unpublished, Admitted, Unadmitted}
 use Rattle.dq_top.specs.Outcomes.{any_refused, any_wanting, is_refused, is_wanting, step_refused, step_wanting}
 
-first_false : (a b : Bool) → (a || b) ≡ false → a ≡ false
+pub first_false : (a b : Bool) → (a || b) ≡ false → a ≡ false
 first_false true b e = e
 first_false false b e = refl
 
-second_false : (a b : Bool) → (a || b) ≡ false → b ≡ false
+pub second_false : (a b : Bool) → (a || b) ≡ false → b ≡ false
 second_false true b e = cc
 second_false false b e = e
 

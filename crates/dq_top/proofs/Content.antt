@@ -1,5 +1,5 @@
 -- What is told of a script's content.
-use Rattle.std.proofs.Common.{◌≡◌, ℕ, List, Some, subst, sym, refl}
+use Rattle.std.proofs.Common.{ℕ, List, Some, subst, sym}
 use Rattle.std.specs.Prelude.{Err}
 use Rattle.dq_base.specs.declared.limit.Limit.{Limit}
 use Rattle.dq_script.specs.Scripts.{script_of, AnswersScript}
@@ -18,7 +18,6 @@ of_script name g (fault.File n h) before now is = tt
 of_script name g fault.Write before now is = tt
 of_script name g fault.Memory before now is = tt
 of_script name g (fault.Limit which value) before now is = absurd (cc)
-of_script name g (fault.Unbuilt n) before now is = tt
 
 of_limit : (w : Limit) (v : ℕ) (f : Fault) (before now : ℕ) → LimitCause before now w v → IsFault (fault.Limit w v) f → TakenCause before now (Some f)
 of_limit w v fault.Usage before now cause is = tt
@@ -28,7 +27,6 @@ of_limit w v (fault.File n h) before now cause is = tt
 of_limit w v fault.Write before now cause is = tt
 of_limit w v fault.Memory before now cause is = tt
 of_limit w v (fault.Limit which value) before now cause is = let P : Fault → Type 0 = λ g. TakenCause before now (Some g) in subst P (sym is) cause
-of_limit w v (fault.Unbuilt n) before now cause is = tt
 
 -- no limit on bytes is told of a script's content
 pub content_counted : (bytes name : List ℕ) (g : ScriptFault) (f : Fault) (before now : ℕ) → AnswersScript (script_of bytes) (Err g) → TellsScript name g f → TakenCause before now (Some f)

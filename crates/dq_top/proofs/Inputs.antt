@@ -1,11 +1,11 @@
 -- What is told of a script, its files and a report.
-use Rattle.std.proofs.Common.{◌≡◌, ℕ, true, List, [], ◌∷◌, ◌++◌, Some, None, ap, sym, subst, refl, inl, inr}
-use Rattle.std.specs.Prelude.{Option, IfSome, Result, Ok, Err}
+use Rattle.std.proofs.Common.{◌≡◌, ℕ, List, [], ◌∷◌, ◌++◌, Some, None, ap, sym, subst, inl, inr}
+use Rattle.std.specs.Prelude.{Option, IfSome, Ok, Err}
 use Rattle.dq_extract.specs.Loads.{LoadedFiles}
 use Rattle.dq_outside.specs.Reads.{Files}
-use Rattle.dq_top.specs.Checking.{AnswersCheck, AnswersInputs, InputsOf, Names, check_reads, inputs_of, report_in}
-use Rattle.dq_top.specs.Loading.{Load, Loads, Missing, Refused, IsAmong, loaded_with, names_after, names_with, then_load}
-use Rattle.dq_top.specs.Outcomes.{AnswersLoad, IsOfLoading, IsOfScript}
+use Rattle.dq_top.specs.Checking.{AnswersCheck, AnswersInputs, InputsOf, Names, report_in}
+use Rattle.dq_top.specs.Loading.{Load, Loads, IsAmong, loaded_of, names_after, names_read, then_load}
+use Rattle.dq_top.specs.Outcomes.{AnswersLoad, IsOfLoading}
 use Rattle.dq_top.specs.declared.fault.Fault.{Fault}
 use Rattle.dq_top.specs.declared.fault.Fault.TheVariants as fault
 
@@ -30,7 +30,6 @@ first_fault W R reads more (fault.File n g) h = ap (λ (w : Load LoadedFiles). b
 first_fault W R reads more fault.Write h = absurd h
 first_fault W R reads more fault.Memory h = tt
 first_fault W R reads more (fault.Limit which value) h = ap (λ (w : Load LoadedFiles). both w R) h
-first_fault W R reads more (fault.Unbuilt n) h = ap (λ (w : Load LoadedFiles). both w R) h
 
 abbrev reads_behind : List (List ℕ) → Load LoadedFiles → List ℕ → List (List ℕ)
 reads_behind reads W name = reads ++ names_after W (λ l. name ∷ [])
@@ -44,7 +43,6 @@ second_loaded l R reads name (fault.File n g) h = ap (λ (r : Load (List ℕ)). 
 second_loaded l R reads name fault.Write h = absurd h
 second_loaded l R reads name fault.Memory h = tt
 second_loaded l R reads name (fault.Limit which value) h = ap (λ (r : Load (List ℕ)). both (Loads l) r) h
-second_loaded l R reads name (fault.Unbuilt n) h = ap (λ (r : Load (List ℕ)). both (Loads l) r) h
 
 second_fault : (W : Load LoadedFiles) (l : LoadedFiles) (R : Load (List ℕ)) (reads : List (List ℕ)) (name : List ℕ) (f : Fault)
     → W ≡ Loads l → AnswersLoad R (λ n. n ≡ name) (Err f) → AnswersLoad (both W R) (λ n. IsAmong n (reads_behind reads W name)) (Err f)
@@ -54,39 +52,28 @@ second_fault W l R reads name f is h =
 
 -- a fault of the script or of its files
 pub script_told : (held : Option Files) (names : Names) (f : Fault)
-    → IfSome held (λ files. AnswersLoad (loaded_with true files names.script) (λ n. IsAmong n (names_with true files names.script)) (Err f))
+    → IfSome held (λ files. AnswersLoad (loaded_of files names.script) (λ n. IsAmong n (names_read files names.script)) (Err f))
     → IfSome held (λ files. AnswersInputs files names (Err f))
 script_told None names f h = tt
 script_told (Some files) names f h =
-    first_fault (loaded_with true files names.script) (report_in names.report (files names.report)) (names_with true files names.script)
-    (names_after (loaded_with true files names.script) (λ l. names.report ∷ [])) f h
+    first_fault (loaded_of files names.script) (report_in names.report (files names.report)) (names_read files names.script)
+    (names_after (loaded_of files names.script) (λ l. names.report ∷ [])) f h
 
 -- a fault of the report
 pub report_told : (held now : Option Files) (names : Names) (l : LoadedFiles) (f : Fault)
     → now ≡ held
-    → IfSome held (λ files. AnswersLoad (loaded_with true files names.script) (λ n. IsAmong n (names_with true files names.script)) (Ok l))
+    → IfSome held (λ files. AnswersLoad (loaded_of files names.script) (λ n. IsAmong n (names_read files names.script)) (Ok l))
     → IfSome now (λ files. AnswersLoad (report_in names.report (files names.report)) (λ n. n ≡ names.report) (Err f))
     → IfSome held (λ files. AnswersInputs files names (Err f))
 report_told held now names l f kept loads h =
     told held loads (subst (λ (o : Option Files). IfSome o (λ files. AnswersLoad (report_in names.report (files names.report)) (λ n. n ≡ names.report) (Err f))) kept h)
   where
     told : (held : Option Files)
-        → IfSome held (λ files. AnswersLoad (loaded_with true files names.script) (λ n. IsAmong n (names_with true files names.script)) (Ok l))
+        → IfSome held (λ files. AnswersLoad (loaded_of files names.script) (λ n. IsAmong n (names_read files names.script)) (Ok l))
         → IfSome held (λ files. AnswersLoad (report_in names.report (files names.report)) (λ n. n ≡ names.report) (Err f))
         → IfSome held (λ files. AnswersInputs files names (Err f))
     told None is h = tt
-    told (Some files) is h = second_fault (loaded_with true files names.script) l (report_in names.report (files names.report)) (names_with true files names.script) names.report f is h
-
--- where faults are taken none is told
-pub faults_taken : (f : Fault) → IsOfScript true f → IsOfLoading f
-faults_taken fault.Usage h = h
-faults_taken (fault.Read n) h = h
-faults_taken (fault.Script n g) h = h
-faults_taken (fault.File n g) h = h
-faults_taken fault.Write h = h
-faults_taken fault.Memory h = h
-faults_taken (fault.Limit which value) h = h
-faults_taken (fault.Unbuilt n) h = absurd (cc)
+    told (Some files) is h = second_fault (loaded_of files names.script) l (report_in names.report (files names.report)) (names_read files names.script) names.report f is h
 
 check_fault : (files : Files) (names : Names) (f : Fault) → IsOfLoading f → AnswersInputs files names (Err f) → AnswersCheck files names (Some f)
 check_fault files names fault.Usage kind h = absurd kind
@@ -96,7 +83,6 @@ check_fault files names (fault.File n g) kind h = h
 check_fault files names fault.Write kind h = absurd kind
 check_fault files names fault.Memory kind h = tt
 check_fault files names (fault.Limit which value) kind h = h
-check_fault files names (fault.Unbuilt n) kind h = absurd kind
 
 pub check_told : (held : Option Files) (named : Option Names) (names : Names) (f : Fault)
     → Some names ≡ named → IsOfLoading f → IfSome held (λ files. AnswersInputs files names (Err f))

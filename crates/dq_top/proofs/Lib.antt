@@ -1,5 +1,6 @@
 pub mod Behind
 pub mod Blended
+pub mod Calm
 pub mod Content
 pub mod Fine
 pub mod Inputs

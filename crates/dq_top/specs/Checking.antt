@@ -1,5 +1,5 @@
 -- What the call that judges a report answers.
-use Rattle.std.specs.Prelude.{◌≡◌, ◌⊎◌, ⊤, ℕ, true, List, [], ◌∷◌, ◌++◌, nat_lt, length, codes, ◌&&◌, Option, Some, None, IfSome, Result, if◌then◌else◌}
+use Rattle.std.specs.Prelude.{◌≡◌, ◌⊎◌, ⊤, ℕ, List, [], ◌∷◌, ◌++◌, nat_lt, length, codes, ◌&&◌, Option, Some, None, IfSome, Result, if◌then◌else◌}
 use Rattle.std.specs.Fmt.{decimal}
 use Rattle.std.specs.Str.{bytes_eq}
 use Rattle.dq_base.specs.Limits.{report_room}
@@ -10,7 +10,7 @@ use Rattle.dq_check.specs.declared.verdict.Verdict.TheVariants.{Lawful, NotRepor
 use Rattle.dq_extract.specs.Loads.{LoadedFiles}
 use Rattle.dq_outside.specs.Reads.{Files}
 use Rattle.dq_outside.specs.Writes.{appended, WritesPrefix}
-use Rattle.dq_top.specs.Loading.{Load, Loads, Missing, Refused, IsAmong, loaded_with, names_after, names_with, then_load}
+use Rattle.dq_top.specs.Loading.{Load, Loads, Missing, Refused, IsAmong, loaded_of, names_after, names_read, then_load}
 use Rattle.dq_top.specs.Outcomes.{AnswersLoad}
 use Rattle.dq_top.specs.Telling.{fault_status}
 use Rattle.dq_top.specs.Words.{is_name}
@@ -47,12 +47,12 @@ pub record InputsOf : Type 0 where
 -- the script and its files, and then the report
 abbrev pub inputs_of : Files → Names → Load InputsOf
 inputs_of files names =
-    then_load (loaded_with true files names.script) (λ l.
+    then_load (loaded_of files names.script) (λ l.
     then_load (report_in names.report (files names.report)) (λ bytes. Loads (record { loaded = l; report = bytes })))
 
 -- the names that are read: the script's, those of its files, and the report's where they load
 abbrev pub check_reads : Files → Names → List (List ℕ)
-check_reads files names = names_with true files names.script ++ names_after (loaded_with true files names.script) (λ l. names.report ∷ [])
+check_reads files names = names_read files names.script ++ names_after (loaded_of files names.script) (λ l. names.report ∷ [])
 
 -- the verdict on what was loaded
 abbrev pub HasVerdict : Load InputsOf → Verdict → Type 0
@@ -110,7 +110,6 @@ IsChecked (Some (fault.File name f)) loaded v = (loaded ≡ None) × (v ≡ None
 IsChecked (Some fault.Write) loaded v = AreThere loaded v
 IsChecked (Some fault.Memory) loaded v = (loaded ≡ None) × (v ≡ None)
 IsChecked (Some (fault.Limit which value)) loaded v = (loaded ≡ None) × (v ≡ None)
-IsChecked (Some (fault.Unbuilt name)) loaded v = ⊥
 
 -- what a told sink holds: the verdict's line, or a prefix of it; after want of memory one of some verdict that it may be, or nothing
 
@@ -136,7 +135,6 @@ WritesVerdict IsOf before now (Some (fault.File name f)) v = now ≡ before
 WritesVerdict IsOf before now (Some fault.Write) v = WritesPart before now v
 WritesVerdict IsOf before now (Some fault.Memory) v = (now ≡ before) ⊎ WritesSome IsOf before now
 WritesVerdict IsOf before now (Some (fault.Limit which value)) v = now ≡ before
-WritesVerdict IsOf before now (Some (fault.Unbuilt name)) v = now ≡ before
 
 abbrev pub DoesLoad : {A : Type 0} → Load A → Type 0
 DoesLoad (Loads x) = ⊤
@@ -153,7 +151,6 @@ AnswersCheck files names (Some (fault.File n f)) = inputs_of files names ≡ Ref
 AnswersCheck files names (Some fault.Write) = DoesLoad (inputs_of files names)
 AnswersCheck files names (Some fault.Memory) = ⊤
 AnswersCheck files names (Some (fault.Limit which value)) = inputs_of files names ≡ Refused (fault.Limit which value)
-AnswersCheck files names (Some (fault.Unbuilt n)) = ⊥
 
 -- the status is that of the verdict, or memory was wanting
 pub record IsServedBy (l : LoadedFiles) (report : List ℕ) (status : ℕ) : Type 0 where

@@ -1,5 +1,5 @@
 -- What the files that a folder holds load to.
-use Rattle.std.specs.Prelude.{◌≡◌, ◌⊎◌, ℕ, ◌-◌, Bool, false, ◌||◌, List, [], ◌∷◌, length, min, nat_lt, slice_get, Option, Some, None, Result, Ok, Err, if◌then◌else◌}
+use Rattle.std.specs.Prelude.{◌≡◌, ◌⊎◌, ℕ, ◌-◌, List, [], ◌∷◌, length, min, nat_lt, slice_get, Option, Some, None, Result, Ok, Err, if◌then◌else◌}
 use Rattle.std.specs.List.{flat_map}
 use Rattle.dq_base.specs.Headings.{Heading}
 use Rattle.dq_base.specs.Limits.{script_room, file_room, all_room, cell_room}
@@ -16,7 +16,6 @@ use Rattle.dq_extract.specs.Rows.{RowFault, Header, Width, TooManyCells, Number,
 use Rattle.dq_extract.specs.declared.fault.LoadFault.TheVariants as load
 use Rattle.dq_script.specs.Reasons.{ScriptReason, not_json, shape, over, unknown_extract, unknown_lane}
 use Rattle.dq_script.specs.Scripts.{script_of}
-use Rattle.dq_script.specs.Wanted.{wants_no_fault}
 use Rattle.dq_script.specs.declared.fault.ScriptFault.TheVariants as script
 use Rattle.dq_top.specs.declared.fault.Fault.{Fault}
 use Rattle.dq_top.specs.declared.fault.Fault.TheVariants as fault
@@ -42,18 +41,14 @@ script_fault name (over which value) = fault.Limit which value
 script_fault name (unknown_extract path) = fault.Script name (script.UnknownExtract path)
 script_fault name (unknown_lane path) = fault.Script name (script.UnknownLane path)
 
--- a script in which nothing is wanted to fail, unless faults are taken
-abbrev pub taken_script : Bool → List ℕ → Script → Load Script
-taken_script faults name script = if faults || wants_no_fault script then Loads script else Refused (fault.Unbuilt name)
+abbrev pub script_or_fault : List ℕ → Result Script ScriptReason → Load Script
+script_or_fault name (Err reason) = Refused (script_fault name reason)
+script_or_fault name (Ok script) = Loads script
 
-abbrev pub built_script : Bool → List ℕ → Result Script ScriptReason → Load Script
-built_script faults name (Err reason) = Refused (script_fault name reason)
-built_script faults name (Ok script) = taken_script faults name script
-
-abbrev pub script_in : Bool → List ℕ → Option (List ℕ) → Load Script
-script_in faults name None = Missing name
-script_in faults name (Some bytes) =
-    if nat_lt script_room (length bytes) then Refused (fault.Limit limit.ScriptBytes script_room) else built_script faults name (script_of bytes)
+abbrev pub script_in : List ℕ → Option (List ℕ) → Load Script
+script_in name None = Missing name
+script_in name (Some bytes) =
+    if nat_lt script_room (length bytes) then Refused (fault.Limit limit.ScriptBytes script_room) else script_or_fault name (script_of bytes)
 
 -- the files of publish steps
 
@@ -112,13 +107,9 @@ versions_in files left cells (p ∷ ps) =
 abbrev pub files_of : Files → Script → Load LoadedFiles
 files_of files script = then_load (versions_in files all_room cell_room (publications script)) (λ vs. Loads (record { script = script; segments = vs }))
 
--- what the script of that name and its files load to, where it may want faults or may not: each zone asks of what its lane's
--- session leaves
-abbrev pub loaded_with : Bool → Files → List ℕ → Load LoadedFiles
-loaded_with faults files name = then_load (script_in faults name (files name)) (λ script. files_of files (shielded script))
-
+-- what the script of that name and its files load to: each zone asks of what its lane's session leaves
 abbrev pub loaded_of : Files → List ℕ → Load LoadedFiles
-loaded_of files name = loaded_with false files name
+loaded_of files name = then_load (script_in name (files name)) (λ script. files_of files (shielded script))
 
 abbrev pub names_after : {A : Type 0} → Load A → (A → List (List ℕ)) → List (List ℕ)
 names_after (Loads x) more = more x
@@ -132,12 +123,9 @@ files_read files left cells (p ∷ ps) =
     p.file ∷ names_after (version_in p left cells (files p.file)) (λ v. files_read files (left - bytes_in (files p.file)) (cells - cells_of v) ps)
 
 -- the names that are read: the script's, and then those of its files
-abbrev pub names_with : Bool → Files → List ℕ → List (List ℕ)
-names_with faults files name =
-    name ∷ names_after (script_in faults name (files name)) (λ script. files_read files all_room cell_room (publications (shielded script)))
-
 abbrev pub names_read : Files → List ℕ → List (List ℕ)
-names_read files name = names_with false files name
+names_read files name =
+    name ∷ names_after (script_in name (files name)) (λ script. files_read files all_room cell_room (publications (shielded script)))
 
 -- the name is one of these
 abbrev pub IsAmong : List ℕ → List (List ℕ) → Type 0

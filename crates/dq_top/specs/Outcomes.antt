@@ -1,14 +1,17 @@
 -- What the top call answers, by what it tells.
-use Rattle.std.specs.Prelude.{◌≡◌, ◌⊎◌, ⊤, ℕ, Bool, true, false, List, [], ◌+◌, Option, Some, None, IfSome, is_some, option_map, if◌then◌else◌, Result, Ok, Err}
+use Rattle.std.specs.Prelude.{◌≡◌, ◌⊎◌, ⊤, ℕ, Bool, true, false, ◌||◌, List, [], ◌+◌, Option, Some, None, IfSome, is_some, option_map, if◌then◌else◌, Result, Ok, Err}
 use Rattle.std.specs.Arc.{arc_value}
 use Rattle.std.specs.List.{list_any}
 use Rattle.std.specs.declared.alloc.Global.{Global}
 use Rattle.std.specs.declared.sync.Arc.{Arc}
 use Rattle.dq_base.specs.Headings.{Heading}
 use Rattle.dq_base.specs.Validity.{invalid_by}
+use Rattle.dq_base.specs.declared.kept.Kept.{Kept}
+use Rattle.dq_base.specs.declared.kept.Kept.TheVariants as kept
 use Rattle.dq_base.specs.declared.limit.Limit.{Limit}
 use Rattle.dq_base.specs.declared.limit.Limit.TheVariants as limit
 use Rattle.dq_base.specs.declared.query.Query.{Query}
+use Rattle.dq_base.specs.declared.script.Fails.{Fails}
 use Rattle.dq_base.specs.declared.script.Script.{Script}
 use Rattle.dq_base.specs.declared.script.Step.{Step}
 use Rattle.dq_base.specs.declared.script.Step.TheVariants as step
@@ -16,9 +19,9 @@ use Rattle.dq_base.specs.Causes.{Rose, RoseBy}
 use Rattle.dq_outside.specs.Reads.{Files}
 use Rattle.dq_outside.specs.Writes.{appended, WritesPrefix}
 use Rattle.dq_extract.specs.Loads.{LoadedFiles}
-use Rattle.dq_journal.specs.Right.{IsRight}
 use Rattle.dq_journal.specs.Shown.{Shown}
 use Rattle.dq_journal.specs.declared.entry.Entry.{Entry}
+use Rattle.dq_journal.specs.declared.entry.Entry.TheVariants.{Publish, Admit, Lease, Give, Lose, Land, Fall, Take, End}
 use Rattle.dq_journal.specs.declared.result.ZoneResult.{ZoneResult}
 use Rattle.dq_journal.specs.declared.result.ZoneResult.TheVariants as zone
 use Rattle.dq_journal.specs.declared.result.StepResult.{StepResult}
@@ -26,7 +29,12 @@ use Rattle.dq_journal.specs.declared.result.StepResult.TheVariants.{Published, U
 use Rattle.dq_base.specs.Limits.{cell_room}
 use Rattle.dq_extract.specs.declared.fault.LoadFault.{LoadFault}
 use Rattle.dq_extract.specs.declared.fault.LoadFault.TheVariants as load
-use Rattle.dq_rehearse.specs.Legal.{Legal}
+use Rattle.dq_link.specs.Views.{LostLink, PooledLink}
+use Rattle.dq_machine.specs.Machine.{after, legal}
+use Rattle.dq_machine.specs.Right.{IsRight}
+use Rattle.dq_rehearse.specs.Dialled.{AreDialled, ArePlans}
+use Rattle.dq_desk.specs.Links.{AreLinks, AreWrecks, losses}
+use Rattle.dq_trial.specs.Links.{LinkTells}
 use Rattle.dq_script.specs.declared.fault.ScriptFault.{ScriptFault}
 use Rattle.dq_script.specs.declared.fault.ScriptFault.TheVariants as script
 use Rattle.dq_report.specs.declared.writing.WriteFault.{WriteFault}
@@ -71,6 +79,29 @@ any_refused results = list_any (λ steps. list_any step_refused steps) results
 abbrev pub any_wanting : List (List StepResult) → Bool
 any_wanting results = list_any (λ steps. list_any step_wanting steps) results
 
+-- a keep of this answer was refused for memory
+abbrev pub is_unkept : Kept → Bool
+is_unkept kept.Kept = false
+is_unkept kept.Topped = false
+is_unkept kept.TooLarge = false
+is_unkept kept.Stale = false
+is_unkept kept.Memory = true
+
+abbrev pub entry_unkept : Entry → Bool
+entry_unkept (Publish lane step) = false
+entry_unkept (Admit lane step met) = false
+entry_unkept (Lease lane flight link fresh) = false
+entry_unkept (Give lane flight link ran runs calls) = false
+entry_unkept (Lose lane flight link dialled ran runs calls) = false
+entry_unkept (Land lane flight cells clever literal) = is_unkept clever || is_unkept literal
+entry_unkept (Fall lane flight cause) = false
+entry_unkept (Take lane flight next) = false
+entry_unkept (End lane) = false
+
+-- some keep was refused for memory
+abbrev pub any_unkept : List Entry → Bool
+any_unkept journal = list_any entry_unkept journal
+
 -- what isn't valid
 
 abbrev pub is_invalid : List Heading → Query → Bool
@@ -111,13 +142,34 @@ IsWhole (Some (fault.File name f)) loaded = loaded ≡ None
 IsWhole (Some fault.Write) loaded = (l : LoadedFiles) × (loaded ≡ Some l)
 IsWhole (Some fault.Memory) loaded = ⊤
 IsWhole (Some (fault.Limit which value)) loaded = loaded ≡ None
-IsWhole (Some (fault.Unbuilt name)) loaded = loaded ≡ None
 
 -- where something was loaded, the journal is legal, the results are right for both, and the script's blends are shown of them;
 -- else there are none
 abbrev pub AreRight : Option LoadedFiles → List Entry → List (List StepResult) → List (List StepResult) → Type 0
 AreRight None journal results shown = (journal ≡ []) × (results ≡ []) × (shown ≡ [])
-AreRight (Some l) journal results shown = Legal l journal × IsRight l journal results × Shown l results shown
+AreRight (Some l) journal results shown = (legal l journal ≡ true) × IsRight l journal results × Shown l results shown
+
+-- links and dialers
+
+module _ {L : Type 0} where
+  -- where something was loaded, the idle links are those of the machine behind the journal; else there are none
+  abbrev pub AreIdle : LinkTells L → Option LoadedFiles → List Entry → List (PooledLink L) → Type 0
+  AreIdle tells None journal idle = idle ≡ []
+  AreIdle tells (Some l) journal idle = AreLinks tells l (after l journal).versions (after l journal).links.idle idle
+
+  -- and there is one wreck for each dialled link that the journal tells to be lost
+  abbrev pub AreLost : LinkTells L → Option LoadedFiles → List Entry → List (LostLink L) → Type 0
+  AreLost tells None journal wrecks = wrecks ≡ []
+  AreLost tells (Some l) journal wrecks = AreWrecks tells l.script.fails (losses journal) wrecks
+
+-- and one dialer for each lane, which counted the dials that the journal tells to have failed, and has the script's plan
+abbrev pub HaveDialled : Option LoadedFiles → List Entry → List ℕ → Type 0
+HaveDialled None journal faults = faults ≡ []
+HaveDialled (Some l) journal faults = AreDialled l journal 1 faults
+
+abbrev pub HavePlans : Option LoadedFiles → List (Option Fails) → Type 0
+HavePlans None plans = plans ≡ []
+HavePlans (Some l) plans = ArePlans l 1 plans
 
 -- what is written
 
@@ -136,7 +188,6 @@ Writes before now report loaded (Some (fault.File name f)) = now ≡ before
 Writes before now report loaded (Some fault.Write) = WritesPrefix before now report
 Writes before now report loaded (Some fault.Memory) = WritesSome before now report loaded
 Writes before now report loaded (Some (fault.Limit which value)) = now ≡ before
-Writes before now report loaded (Some (fault.Unbuilt name)) = now ≡ before
 
 -- answers and their causes
 
@@ -150,7 +201,6 @@ AnswersFiles files name (Some (fault.File n f)) = loaded_of files name ≡ Refus
 AnswersFiles files name (Some fault.Write) = (l : LoadedFiles) × (loaded_of files name ≡ Loads l)
 AnswersFiles files name (Some fault.Memory) = ⊤
 AnswersFiles files name (Some (fault.Limit which value)) = loaded_of files name ≡ Refused (fault.Limit which value)
-AnswersFiles files name (Some (fault.Unbuilt n)) = loaded_of files name ≡ Refused (fault.Unbuilt n)
 
 -- a fault of reading comes only where the folder's count rose, and names its last fault
 abbrev pub ReadCause : ℕ → ℕ → Option (List ℕ) → Option Fault → Type 0
@@ -162,7 +212,6 @@ ReadCause before now last (Some (fault.File name f)) = ⊤
 ReadCause before now last (Some fault.Write) = ⊤
 ReadCause before now last (Some fault.Memory) = ⊤
 ReadCause before now last (Some (fault.Limit which value)) = ⊤
-ReadCause before now last (Some (fault.Unbuilt name)) = ⊤
 
 -- a limit on bytes is passed only where the folder took more in the call
 abbrev pub LimitCause : ℕ → ℕ → Limit → ℕ → Type 0
@@ -183,7 +232,6 @@ IsUntouched (Some (fault.Read name)) folder asked sink wrote = wrote ≡ sink
 IsUntouched (Some (fault.Script name f)) folder asked sink wrote = wrote ≡ sink
 IsUntouched (Some (fault.File name f)) folder asked sink wrote = wrote ≡ sink
 IsUntouched (Some (fault.Limit which value)) folder asked sink wrote = wrote ≡ sink
-IsUntouched (Some (fault.Unbuilt name)) folder asked sink wrote = wrote ≡ sink
 IsUntouched told folder asked sink wrote = ⊤
 
 -- parts of the run
@@ -198,7 +246,6 @@ AnswersLoad want IsRead (Err (fault.File name f)) = want ≡ Refused (fault.File
 AnswersLoad want IsRead (Err fault.Write) = ⊥
 AnswersLoad want IsRead (Err fault.Memory) = ⊤
 AnswersLoad want IsRead (Err (fault.Limit which value)) = want ≡ Refused (fault.Limit which value)
-AnswersLoad want IsRead (Err (fault.Unbuilt name)) = want ≡ Refused (fault.Unbuilt name)
 
 -- this fault, or want of memory
 abbrev pub IsFault : Fault → Fault → Type 0
@@ -227,13 +274,7 @@ TellsRows name load.Memory told = told ≡ fault.Memory
 abbrev pub IsOfLoading : Fault → Type 0
 IsOfLoading fault.Usage = ⊥
 IsOfLoading fault.Write = ⊥
-IsOfLoading (fault.Unbuilt name) = ⊥
 IsOfLoading f = ⊤
-
--- and that of a script, which may want faults where they are taken
-abbrev pub IsOfScript : Bool → Fault → Type 0
-IsOfScript faults (fault.Unbuilt name) = faults ≡ false
-IsOfScript faults f = IsOfLoading f
 
 -- what may be told once all is loaded
 abbrev pub IsOfPlay : Option Fault → Type 0

@@ -37,7 +37,6 @@ fault_status (fault.File name f) = file_status f
 fault_status fault.Write = 5
 fault_status fault.Memory = 6
 fault_status (fault.Limit which value) = 7
-fault_status (fault.Unbuilt name) = 8
 
 -- lines
 
@@ -92,4 +91,3 @@ fault_line (fault.File name f) = file_line name f
 fault_line fault.Write = codes "dashboards: cannot write"
 fault_line fault.Memory = memory_line
 fault_line (fault.Limit which value) = limit_line which value
-fault_line (fault.Unbuilt name) = of_file name (codes ": not built")

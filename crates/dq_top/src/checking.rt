@@ -89,7 +89,7 @@ fn read_inputs<F: Folder>(
     ensures kind { IfErr result IsOfLoading }
     ensures limit { IfErr result (λ f. TakenCause (F.taken folder.old) (F.taken folder.new) (Some f)) }
 {
-    let loaded = match load_script(alloc, script, true, folder) {
+    let loaded = match load_script(alloc, script, folder) {
         Ok(loaded) => loaded,
         Err(fault) => return Err(fault),
     };

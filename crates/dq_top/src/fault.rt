@@ -19,6 +19,4 @@ pub enum Fault {
     Memory,
     /// A limit is passed, by that value.
     Limit(Limit, u64),
-    /// The script of that name wants something to fail, which isn't built.
-    Unbuilt(Text),
 }

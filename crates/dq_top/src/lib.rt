@@ -2,12 +2,13 @@
 //!
 //! `specs/Words` says which words name a script, `specs/Loading` what files load to, `specs/Progress` how far loading has come,
 //! and `specs/Outcomes` what each answer means. The layer above may rely on this: what was loaded is what the files load to,
-//! the results are right for it and for the journal, and the journal follows the script's schedule; a told sink then has the
-//! report on them, or a prefix of it where a write failed or memory was wanting; where the run didn't begin nothing is
-//! written; and a fault of reading or of writing is told only where the folder's or the sink's count rose in the call.
+//! the journal is legal and follows the script's schedule, the results are right for both, and links and dialers agree with the
+//! journal; a told sink then has the report on them, or a prefix of it where a write failed or memory was wanting; where the run
+//! didn't begin nothing is written; and a fault of reading or of writing is told only where the folder's or the sink's count rose in
+//! the call.
 //!
 //! ```text
-//! let outcome = dq_top::rehearse(alloc, &words, &mut folder, &mut sink);
+//! let outcome = dq_top::rehearse(alloc, &words, &mut folder, &mut sink, &mut office);
 //! ```
 #![tactic(auto)]
 

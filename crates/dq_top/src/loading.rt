@@ -7,8 +7,8 @@ ghost use Rattle.dq_base.specs.Scripts.{IsScript, heading_fits, lane_fits, sourc
 ghost use Rattle.dq_base.specs.Versions.{IsVersion, cells_of};
 ghost use Rattle.dq_extract.specs.Loads.{AreOf};
 ghost use Rattle.dq_script.specs.Scripts.{script_of};
-ghost use Rattle.dq_top.specs.Loading.{IsAmong, built_script, bytes_fault, files_of, files_read, loaded_with, names_with, publication_in, publications, script_in, versions_in};
-ghost use Rattle.dq_top.specs.Outcomes.{AnswersLoad, IsFault, IsOfLoading, IsOfScript, ReadCause, TakenCause, TellsRows, TellsScript};
+ghost use Rattle.dq_top.specs.Loading.{IsAmong, bytes_fault, files_of, files_read, loaded_of, names_read, publication_in, publications, script_in, script_or_fault, versions_in};
+ghost use Rattle.dq_top.specs.Outcomes.{AnswersLoad, IsFault, IsOfLoading, ReadCause, TakenCause, TellsRows, TellsScript};
 ghost use Rattle.dq_top.specs.Progress.{AnswersProgress, IsProgress, IsWithin, TakenBy, behind_one};
 
 use crate::fault::Fault;
@@ -19,7 +19,7 @@ use dq_base::{
 };
 use dq_extract::{LoadFault, Loaded, SegmentList, load};
 use dq_outside::{Folder, FolderFault};
-use dq_script::{ScriptFault, read, wants_no_fault};
+use dq_script::{ScriptFault, read};
 use dq_shield::shield;
 use std::alloc::Global;
 
@@ -29,16 +29,6 @@ pub fn unread(alloc: Global, name: &Text) -> Fault
 {
     match Text::copy_of(alloc, name.bytes()) {
         Ok(copy) => Fault::Read(copy),
-        Err(Memory) => Fault::Memory,
-    }
-}
-
-/// The fault of a script that wants something to fail.
-fn unbuilt(alloc: Global, name: &Text) -> Fault
-    ensures { IsFault (Fault.Unbuilt name.now) result }
-{
-    match Text::copy_of(alloc, name.bytes()) {
-        Ok(copy) => Fault::Unbuilt(copy),
         Err(Memory) => Fault::Memory,
     }
 }
@@ -104,37 +94,26 @@ fn bytes_fault(left: u64) -> Fault
     }
 }
 
-/// The script that a file's bytes mean. Where faults aren't taken, nothing may be wanted to fail.
-fn built(alloc: Global, name: &Text, faults: bool, bytes: &[u8]) -> Result<Script, Fault>
-    ensures told { AnswersLoad (built_script faults name.now (script_of bytes.now)) (λ n. ⊥) result }
+/// The script that a file's bytes mean.
+fn script_or_fault(alloc: Global, name: &Text, bytes: &[u8]) -> Result<Script, Fault>
+    ensures told { AnswersLoad (script_or_fault name.now (script_of bytes.now)) (λ n. ⊥) result }
     ensures limit { IfErr result (λ f. (before now : ℕ) → TakenCause before now (Some f)) }
-    ensures kind { IfErr result (IsOfScript faults) }
+    ensures kind { IfErr result IsOfLoading }
     ensures fits { IfOk result IsScript }
 {
     match read(alloc, bytes) {
-        Ok(script) => {
-            if faults || wants_no_fault(&script) {
-                Ok(script)
-            } else {
-                Err(unbuilt(alloc, name))
-            }
-        }
+        Ok(script) => Ok(script),
         Err(fault) => Err(script_fault(alloc, name, fault)),
     }
 }
 
 /// Reads the script of that name.
-pub fn read_script<F: Folder>(
-    alloc: Global,
-    name: &Text,
-    faults: bool,
-    folder: &mut F,
-) -> Result<Script, Fault>
+pub fn read_script<F: Folder>(alloc: Global, name: &Text, folder: &mut F) -> Result<Script, Fault>
     ensures kept { F.files folder.new ≡ F.files folder.old }
-    ensures told { IfSome (F.files folder.old) (λ files. AnswersLoad (script_in faults name.now (files name.now)) (λ n. n ≡ name.now) result) }
+    ensures told { IfSome (F.files folder.old) (λ files. AnswersLoad (script_in name.now (files name.now)) (λ n. n ≡ name.now) result) }
     ensures later { F.faults folder.old ≤ F.faults folder.new }
     ensures cause { IfErr result (λ f. ReadCause (F.faults folder.old) (F.faults folder.new) (F.last_fault folder.new) (Some f)) }
-    ensures kind { IfErr result (IsOfScript faults) }
+    ensures kind { IfErr result IsOfLoading }
     ensures grown { F.taken folder.old ≤ F.taken folder.new }
     ensures limit { IfErr result (λ f. TakenCause (F.taken folder.old) (F.taken folder.new) (Some f)) }
     ensures fits { IfOk result IsScript }
@@ -145,7 +124,7 @@ pub fn read_script<F: Folder>(
         Err(FolderFault::TooLong) => return Err(Fault::Limit(Limit::ScriptBytes, SCRIPT_BYTES)),
         Err(FolderFault::Memory) => return Err(Fault::Memory),
     };
-    built(alloc, name, faults, bytes.bytes())
+    script_or_fault(alloc, name, bytes.bytes())
 }
 
 /// The schema of a source.
@@ -334,23 +313,17 @@ fn load_files<F: Folder>(alloc: Global, script: Script, folder: &mut F) -> Resul
     }
 }
 
-/// Loads the script of that name and its files. Each zone then asks of what its lane's session leaves of its source. Where faults
-/// aren't taken, a script that wants something to fail is refused.
-pub fn load_script<F: Folder>(
-    alloc: Global,
-    name: &Text,
-    faults: bool,
-    folder: &mut F,
-) -> Result<Loaded, Fault>
+/// Loads the script of that name and its files. Each zone then asks of what its lane's session leaves of its source.
+pub fn load_script<F: Folder>(alloc: Global, name: &Text, folder: &mut F) -> Result<Loaded, Fault>
     ensures kept { F.files folder.new ≡ F.files folder.old }
-    ensures told { IfSome (F.files folder.old) (λ files. AnswersLoad (loaded_with faults files name.now) (λ n. IsAmong n (names_with faults files name.now)) result) }
+    ensures told { IfSome (F.files folder.old) (λ files. AnswersLoad (loaded_of files name.now) (λ n. IsAmong n (names_read files name.now)) result) }
     ensures later { F.faults folder.old ≤ F.faults folder.new }
     ensures cause { IfErr result (λ f. ReadCause (F.faults folder.old) (F.faults folder.new) (F.last_fault folder.new) (Some f)) }
-    ensures kind { IfErr result (IsOfScript faults) }
+    ensures kind { IfErr result IsOfLoading }
     ensures grown { F.taken folder.old ≤ F.taken folder.new }
     ensures limit { IfErr result (λ f. TakenCause (F.taken folder.old) (F.taken folder.new) (Some f)) }
 {
-    let script = match read_script(alloc, name, faults, folder) {
+    let script = match read_script(alloc, name, folder) {
         Ok(script) => script,
         Err(fault) => return Err(fault),
     };

@@ -1,8 +1,9 @@
 ghost use Rattle.std.specs.List.{list_any};
-ghost use Rattle.std.specs.Prelude.{◌≡◌};
+ghost use Rattle.std.specs.Prelude.{◌≡◌, ◌||◌};
 ghost use Rattle.dq_top.specs.Outcomes as outcome;
 
-use dq_journal::{LaneResults, LaneResultsList, StepResult, ZoneResult};
+use dq_base::Kept;
+use dq_journal::{Entry, Journal, LaneResults, LaneResultsList, StepResult, ZoneResult};
 
 fn is_refused(zone: &ZoneResult) -> bool
     ensures { result ≡ outcome.is_refused zone.now }
@@ -80,8 +81,47 @@ pub fn any_refused(results: &LaneResultsList) -> bool
 }
 
 /// Whether some zone, refresh or batch was refused for memory.
-pub fn any_wanting(results: &LaneResultsList) -> bool
+fn any_wanting(results: &LaneResultsList) -> bool
     ensures { result ≡ outcome.any_wanting results.now }
 {
     results.as_slice().iter().any(|lane| lane_wanting(lane))
+}
+
+fn is_unkept(kept: Kept) -> bool
+    ensures { result ≡ outcome.is_unkept kept }
+{
+    match kept {
+        Kept::Kept => false,
+        Kept::Topped => false,
+        Kept::TooLarge => false,
+        Kept::Stale => false,
+        Kept::Memory => true,
+    }
+}
+
+fn entry_unkept(entry: &Entry) -> bool
+    ensures { result ≡ outcome.entry_unkept entry.now }
+{
+    match entry {
+        Entry::Land {
+            clever,
+            literal,
+            ..
+        } => is_unkept(*clever) || is_unkept(*literal),
+        _ => false,
+    }
+}
+
+/// Whether some keep was refused for memory.
+fn any_unkept(journal: &Journal) -> bool
+    ensures { result ≡ outcome.any_unkept journal.now.entries }
+{
+    journal.as_slice().iter().any(|entry| entry_unkept(entry))
+}
+
+/// Whether memory was wanting: some zone, refresh or batch was refused for it, or some keep.
+pub fn wants_memory(results: &LaneResultsList, journal: &Journal) -> bool
+    ensures { result ≡ (outcome.any_wanting results.now || outcome.any_unkept journal.now.entries) }
+{
+    any_wanting(results) || any_unkept(journal)
 }

@@ -131,7 +131,6 @@ pub fn tell(alloc: Global, fault: &Fault) -> Result<Text, Memory>
         Fault::Write => Text::copy_of(alloc, b"dashboards: cannot write"),
         Fault::Memory => tell_memory(alloc),
         Fault::Limit(limit, value) => tell_limit(alloc, *limit, *value),
-        Fault::Unbuilt(name) => tell_file(alloc, name, b": not built"),
     }
 }
 
@@ -168,7 +167,6 @@ impl Fault {
             Fault::Write => 5,
             Fault::Memory => 6,
             Fault::Limit(_, _) => 7,
-            Fault::Unbuilt(_) => 8,
         }
     }
 }

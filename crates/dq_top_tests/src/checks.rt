@@ -1,5 +1,5 @@
 // What judging a report writes and tells, from the format's texts.
-use crate::tests::{SALES, SCRIPT, add, both, words};
+use crate::tests::{SCRIPT, add, all_files, words};
 use dq_base::Numbers64;
 use dq_check::Verdict;
 use dq_outside::{MemFolder, MemSink, NamedFiles};
@@ -7,8 +7,8 @@ use dq_top::{check, tell};
 use std::alloc::Global;
 use std::process::Abort;
 
-// A lawful report of the script.
-const REPORT: &str = r#"report 1
+// The report of the script, which is lawful.
+pub(crate) const REPORT: &str = r#"report 1
 lanes 1
 entries 6
 1 publish lane 1 step 1
@@ -70,9 +70,9 @@ const VERDICTS: [Change; 18] = [
     ("", "", 0, "lawful\n"),
 ];
 
-/// The script, its file and this report.
-fn files(rt: &impl Abort, alloc: Global, script: &str, report: &str) -> NamedFiles {
-    let mut files = both(rt, alloc, script, SALES);
+/// These files and this report.
+fn with_report(rt: &impl Abort, alloc: Global, files: NamedFiles, report: &str) -> NamedFiles {
+    let mut files = files;
     add(rt, alloc, &mut files, b"report", report.as_bytes());
     files
 }
@@ -81,16 +81,17 @@ fn no_faults(alloc: Global) -> Numbers64 {
     Numbers64::new(alloc)
 }
 
-/// The verdict on a report is this line, and the status this one.
-fn check_verdict(
+/// The verdict on a report over a script's files is this line, and the status this one.
+pub(crate) fn check_report_of(
     rt: &impl Abort,
     alloc: Global,
-    script: &str,
+    files: NamedFiles,
     report: &str,
     status: u8,
     line: &str,
 ) {
-    let mut folder = MemFolder::new(files(rt, alloc, script, report), no_faults(alloc));
+    let files = with_report(rt, alloc, files, report);
+    let mut folder = MemFolder::new(files, no_faults(alloc));
     let mut sink = MemSink::new(alloc, no_faults(alloc));
     let given = words(rt, alloc, &["check", "row.json", "report"]);
     let checked = check(alloc, &given, &mut folder, &mut sink);
@@ -100,6 +101,19 @@ fn check_verdict(
     assert!(rt; checked.loaded.is_some(), "{report}");
     let lawful = checked.verdict == Some(Verdict::Lawful);
     assert_eq!(rt; lawful, status == 0, "{report}");
+}
+
+/// The verdict on a report of a script is this line, and the status this one.
+pub(crate) fn check_verdict(
+    rt: &impl Abort,
+    alloc: Global,
+    script: &str,
+    report: &str,
+    status: u8,
+    line: &str,
+) {
+    let files = all_files(rt, alloc, script);
+    check_report_of(rt, alloc, files, report, status, line);
 }
 
 /// The verdict on a script's report, where a text stands in the place of another, if that isn't empty.
@@ -129,7 +143,8 @@ pub(crate) fn check_changes(
 
 /// With these words nothing is judged or written, and this line is told.
 fn check_refused(rt: &impl Abort, alloc: Global, given: &[&str], status: u8, line: &str) {
-    let mut folder = MemFolder::new(files(rt, alloc, SCRIPT, REPORT), no_faults(alloc));
+    let files = with_report(rt, alloc, all_files(rt, alloc, SCRIPT), REPORT);
+    let mut folder = MemFolder::new(files, no_faults(alloc));
     let mut sink = MemSink::new(alloc, no_faults(alloc));
     let checked = check(alloc, &words(rt, alloc, given), &mut folder, &mut sink);
     let fault = checked.told.as_ref().expect(rt, "a fault");

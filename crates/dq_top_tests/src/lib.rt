@@ -6,6 +6,14 @@
 #[cfg(test)]
 mod checks;
 #[cfg(test)]
+mod dashboards;
+#[cfg(test)]
+mod links;
+#[cfg(test)]
+mod plays;
+#[cfg(test)]
 mod tests;
 #[cfg(test)]
 mod verdicts;
+#[cfg(test)]
+mod whole;

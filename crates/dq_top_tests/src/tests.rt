@@ -1,6 +1,9 @@
 // What runs write and tell, from the format's texts.
+use crate::checks::REPORT;
+use dq_backend::InOffice;
 use dq_base::{Limit, List, Numbers64, Text, Texts};
 use dq_extract::LoadFault;
+use dq_link::{Dialer, Link};
 use dq_outside::{Folder, MemFolder, MemSink, NamedFile, NamedFiles, SureFolder, SureSink};
 use dq_script::ScriptFault;
 use dq_top::{Fault, Outcome, rehearse, tell};
@@ -13,7 +16,7 @@ pub(crate) const SCRIPT: &str =
 // The script's zones.
 const ZONES: &str = r#"{"source":"sales","by":["region"],"show":[["sum","amount"],["rows"]]}"#;
 
-pub(crate) const SALES: &str = "region,year,amount
+const SALES: &str = "region,year,amount
 East,2020,10
 East,2021,5
 West,2020,7
@@ -37,16 +40,12 @@ East,2020,9223372036854775807
 East,2021,9223372036854775807
 ";
 
-// The report of a run, up to the number of its zones.
-const BEGUN: &str = "report 1
-lanes 1
-entries 3
-1 publish lane 1 step 1
-2 admit lane 1 step 2 met
-3 end lane 1
-lane 1 steps 2
-step 1 published 1
-step 2 admitted 2 zones ";
+// What a batch meets, and how its flights land one after the other on one link: the cells and what both caches did.
+type Flown = (&'static str, [&'static str; 2]);
+
+const NOTHING: Flown = ("", ["", ""]);
+
+const NINE_CELLS: Flown = (" group 1", ["9 clever kept literal kept", ""]);
 
 // What the report says of the script's zones over the sales.
 const ANSWERED: &str = r#"1
@@ -56,30 +55,30 @@ null 4 1
 "West" 7 2
 "#;
 
-// The zones, the file, the status, and the report from the number of zones on.
-const RUNS: [(&str, &str, u8, &str); 13] = [
-    (ZONES, SALES, 0, ANSWERED),
-    (ZONES, MARKED_SALES, 0, ANSWERED),
-    (ZONES, NO_SALES, 0, "1\nzone 1 rows 0\n"),
-    ("", SALES, 0, "0\n"),
+// The zones, the file, the status, what their flights come to, and the report from the number of zones on.
+const RUNS: [(&str, &str, u8, Flown, &str); 13] = [
+    (ZONES, SALES, 0, NINE_CELLS, ANSWERED),
+    (ZONES, MARKED_SALES, 0, NINE_CELLS, ANSWERED),
     (
-        r#"{"source":"sales","by":["region"],"show":[["rows"]]},{"source":"sales","by":["colour"],"show":[["rows"]]},{"source":"sales","show":[["rows"]]}"#,
+        ZONES,
+        NO_SALES,
+        0,
+        (" group 1", ["0 clever kept literal kept", ""]),
+        "1\nzone 1 rows 0\n",
+    ),
+    ("", SALES, 0, NOTHING, "0\n"),
+    (
+        r#"{"source":"sales","by":["region"],"top":3,"show":[["sum","amount"],["rows"]]}"#,
         SALES,
-        1,
-        r#"3
-zone 1 rows 3
-null 1
-"East" 2
-"West" 2
-zone 2 invalid column
-zone 3 rows 1
-5
-"#,
+        0,
+        (" group 1", ["9 clever topped literal kept", ""]),
+        ANSWERED,
     ),
     (
         r#"{"source":"sales","show":[["rows"],["sum","amount"]]}"#,
         NO_SALES,
         0,
+        (" group 1", ["2 clever kept literal kept", ""]),
         r#"1
 zone 1 rows 1
 0 null
@@ -89,6 +88,10 @@ zone 1 rows 1
         r#"{"source":"sales","by":["region"],"show":[["countd","year"]]},{"source":"sales","by":["region","year"],"show":[["rows"]]},{"source":"sales","by":["region"],"show":[["countd","amount"]]},{"source":"sales","show":[["countd","year"],["countd","region"]]}"#,
         SALES,
         0,
+        (
+            " group 1 group 2",
+            ["15 clever kept literal kept", "6 clever kept literal kept"],
+        ),
         r#"4
 zone 1 rows 3
 null 1
@@ -112,6 +115,10 @@ zone 4 rows 1
         r#"{"source":"sales","by":["region","year"],"show":[["avg","amount"]]},{"source":"sales","show":[["avg","amount"]]},{"source":"sales","by":["region"],"show":[["max","amount"]]}"#,
         SALES,
         0,
+        (
+            " group 1 group 2",
+            ["15 clever kept literal kept", "6 clever kept literal kept"],
+        ),
         r#"3
 zone 1 rows 5
 null 2021 4/1
@@ -131,6 +138,7 @@ null 4
         r#"{"source":"sales","by":["region"],"show":[["rows"]],"order":[[2,"down"]],"top":1},{"source":"sales","by":["region"],"show":[["max","year"]],"order":[[2,"down"]],"top":1}"#,
         SALES,
         0,
+        (" group 1 group 1", ["9 clever kept literal kept", ""]),
         r#"2
 zone 1 rows 1
 "East" 2
@@ -142,6 +150,7 @@ null 2021
         r#"{"source":"sales","show":[["sum","amount"],["avg","amount"]]}"#,
         LARGE_SALES,
         0,
+        (" group 1", ["2 clever kept literal kept", ""]),
         r#"1
 zone 1 rows 1
 18446744073709551614 18446744073709551614/2
@@ -151,6 +160,7 @@ zone 1 rows 1
         r#"{"source":"costs","show":[["rows"]]},{"source":"sales","by":["colour"]},{"source":"sales","by":["region","region"]},{"source":"sales","show":[["sum","region"]]},{"source":"sales","filters":[{"column":"year","among":["x"]}],"show":[["rows"]]},{"source":"sales"},{"source":"sales","by":["region"],"show":[["rows"]],"order":[[3,"up"]]}"#,
         SALES,
         1,
+        NOTHING,
         r#"7
 zone 1 invalid source
 zone 2 invalid column
@@ -165,6 +175,10 @@ zone 7 invalid order
         r#"{"source":"sales","filters":[{"column":"year","between":[2021,2020]},{"column":"region","among":["West","East","West"]}],"show":[["rows"]]},{"source":"sales","filters":[{"column":"region","among":["West","East","West"]}],"by":["region"],"show":[["rows"]]}"#,
         SALES,
         0,
+        (
+            " group 1 group 2",
+            ["1 clever kept literal kept", "4 clever kept literal kept"],
+        ),
         r#"2
 zone 1 rows 1
 0
@@ -177,6 +191,7 @@ zone 2 rows 2
         r#"{"source":"sales","by":[["band","amount",5]],"show":[["rows"]]},{"source":"sales","by":[["band","amount",10]],"show":[["rows"]]},{"source":"sales","by":[["band","region",2]]},{"source":"sales","by":["year",["band","year",1]]}"#,
         SALES,
         1,
+        (" group 1", ["8 clever kept literal kept", ""]),
         "4
 zone 1 rows 4
 null 1
@@ -193,7 +208,7 @@ zone 4 invalid repeated
     ),
 ];
 
-// Files that sessions publish beside the sales.
+// Files that scripts publish beside the sales.
 const NEXT_SALES: &str = "region,year,amount
 North,2022,1
 ";
@@ -202,286 +217,13 @@ const MORE_SALES: &str = "region,year,amount
 East,2022,3
 ";
 
-// Two sessions, of which the second publishes between two loads of the first one's dashboard.
-const SESSIONS: &str =
-    r#"{"form":1,"extracts":[{"name":"sales","columns":[["region","text"],["year","whole"],["amount","whole"]]}],"lanes":[[{"publish":"sales","how":"replace","file":"sales.csv"},{"batch":[{"source":"sales","by":["region"],"show":[["rows"]]}]},{"batch":[{"source":"sales","by":["region"],"show":[["rows"]]}]}],[{"publish":"sales","how":"replace","file":"next.csv"}]],"schedule":[1,1,2,1,1,1,1,1,1,1]}"#;
-
-// A publication behind another.
-const APPENDED: &str =
-    r#"{"form":1,"extracts":[{"name":"sales","columns":[["region","text"],["year","whole"],["amount","whole"]]}],"lanes":[[{"publish":"sales","how":"replace","file":"sales.csv"},{"publish":"sales","how":"append","file":"more.csv"},{"batch":[{"source":"sales","by":["region"],"show":[["rows"]]}]}]]}"#;
-
-// Three sessions in the order of a schedule, and one zone that isn't valid.
-const TURNS: &str =
-    r#"{"form":1,"extracts":[{"name":"sales","columns":[["region","text"],["year","whole"],["amount","whole"]]}],"lanes":[[{"publish":"sales","how":"replace","file":"sales.csv"},{"batch":[{"source":"sales","by":["region"],"show":[["rows"]]}]}],[{"publish":"sales","how":"replace","file":"next.csv"},{"publish":"sales","how":"append","file":"more.csv"},{"batch":[{"source":"sales","by":["region"],"show":[["rows"]]}]}],[{"batch":[{"source":"sales","by":["colour"],"show":[["rows"]]}]},{"publish":"sales","how":"replace","file":"sales.csv"}]],"schedule":[3,2,2,1,2]}"#;
-
-// Two sessions, of which the second sees the rows of one region alone.
-const FILTERED_SESSION: &str =
-    r#"{"form":2,"extracts":[{"name":"sales","columns":[["region","text"],["year","whole"],["amount","whole"]]}],"lanes":[[{"publish":"sales","how":"replace","file":"sales.csv"},{"batch":[{"source":"sales","by":["region"],"show":[["rows"]]}]}],[{"batch":[{"source":"sales","by":["region"],"show":[["rows"]]}]}]],"schedule":[1,1,1,1,1],"sessions":[{"lane":2,"source":"sales","filters":[{"column":"region","among":["East"]}]}]}"#;
-
-// Three dashboards of two zones that are blended: by region, with a total, and with a query that isn't valid.
-const BLENDED: &str =
-    r#"{"form":2,"extracts":[{"name":"sales","columns":[["region","text"],["year","whole"],["amount","whole"]]}],"lanes":[[{"publish":"sales","how":"replace","file":"sales.csv"},{"batch":[{"blend":[{"source":"sales","by":["region"],"show":[["sum","amount"]]},{"source":"sales","filters":[{"column":"year","among":[2020]}],"by":["region"],"show":[["rows"]]}]}]},{"batch":[{"source":"sales","show":[["rows"]]},{"blend":[{"source":"sales","by":["region"],"show":[["sum","amount"]]},{"source":"sales","filters":[{"column":"year","among":[2020]}],"show":[["rows"]]}]},{"source":"sales","show":[["count","amount"]]}]},{"batch":[{"blend":[{"source":"sales","by":["region"]},{"source":"sales","filters":[{"column":"colour","among":[]}],"by":["region"]}]}]}]]}"#;
-
-// Scripts of sessions, with their statuses and reports.
-const PLAYS: [(&str, u8, &str); 5] = [
-    (
-        FILTERED_SESSION,
-        0,
-        r#"report 1
-lanes 2
-entries 5
-1 publish lane 1 step 1
-2 admit lane 1 step 2 met
-3 end lane 1
-4 admit lane 2 step 1 met
-5 end lane 2
-lane 1 steps 2
-step 1 published 1
-step 2 admitted 2 zones 1
-zone 1 rows 3
-null 1
-"East" 2
-"West" 2
-lane 2 steps 1
-step 1 admitted 4 zones 1
-zone 1 rows 1
-"East" 2
-"#,
-    ),
-    (
-        BLENDED,
-        1,
-        r#"report 1
-lanes 1
-entries 5
-1 publish lane 1 step 1
-2 admit lane 1 step 2 met
-3 admit lane 1 step 3 met
-4 admit lane 1 step 4 met
-5 end lane 1
-lane 1 steps 4
-step 1 published 1
-step 2 admitted 2 zones 1
-zone 1 rows 3
-null 4 null
-"East" 15 1
-"West" 7 1
-step 3 admitted 3 zones 3
-zone 1 rows 1
-5
-zone 2 rows 3
-null 4 2
-"East" 15 2
-"West" 7 2
-zone 3 rows 1
-4
-step 4 admitted 4 zones 1
-zone 1 invalid column
-"#,
-    ),
-    (
-        SESSIONS,
-        0,
-        r#"report 1
-lanes 2
-entries 6
-1 publish lane 1 step 1
-2 admit lane 1 step 2 met
-3 publish lane 2 step 1
-4 admit lane 1 step 3 met
-5 end lane 1
-6 end lane 2
-lane 1 steps 3
-step 1 published 1
-step 2 admitted 2 zones 1
-zone 1 rows 3
-null 1
-"East" 2
-"West" 2
-step 3 admitted 4 zones 1
-zone 1 rows 1
-"North" 1
-lane 2 steps 1
-step 1 published 3
-"#,
-    ),
-    (
-        APPENDED,
-        0,
-        r#"report 1
-lanes 1
-entries 4
-1 publish lane 1 step 1
-2 publish lane 1 step 2
-3 admit lane 1 step 3 met
-4 end lane 1
-lane 1 steps 3
-step 1 published 1
-step 2 published 2
-step 3 admitted 3 zones 1
-zone 1 rows 3
-null 1
-"East" 3
-"West" 2
-"#,
-    ),
-    (
-        TURNS,
-        1,
-        r#"report 1
-lanes 3
-entries 10
-1 admit lane 3 step 1 met
-2 publish lane 2 step 1
-3 publish lane 2 step 2
-4 publish lane 1 step 1
-5 admit lane 2 step 3 met
-6 admit lane 1 step 2 met
-7 end lane 2
-8 publish lane 3 step 2
-9 end lane 1
-10 end lane 3
-lane 1 steps 2
-step 1 published 4
-step 2 admitted 6 zones 1
-zone 1 rows 3
-null 1
-"East" 2
-"West" 2
-lane 2 steps 3
-step 1 published 2
-step 2 published 3
-step 3 admitted 5 zones 1
-zone 1 rows 3
-null 1
-"East" 2
-"West" 2
-lane 3 steps 2
-step 1 admitted 1 zones 1
-zone 1 invalid column
-step 2 published 8
-"#,
-    ),
-];
-
-// What stands in the script, what stands in its place, and the report.
-const LONGER: [(&str, &str, &str); 6] = [
-    (
-        "]}]]}",
-        "]}],[]]}",
-        r#"report 1
-lanes 2
-entries 4
-1 publish lane 1 step 1
-2 end lane 2
-3 admit lane 1 step 2 met
-4 end lane 1
-lane 1 steps 2
-step 1 published 1
-step 2 admitted 3 zones 1
-zone 1 rows 3
-null 4 1
-"East" 15 2
-"West" 7 2
-lane 2 steps 0
-"#,
-    ),
-    (
-        "]}]]}",
-        r#"]},{"batch":[]}]]}"#,
-        r#"report 1
-lanes 1
-entries 4
-1 publish lane 1 step 1
-2 admit lane 1 step 2 met
-3 admit lane 1 step 3 met
-4 end lane 1
-lane 1 steps 3
-step 1 published 1
-step 2 admitted 2 zones 1
-zone 1 rows 3
-null 4 1
-"East" 15 2
-"West" 7 2
-step 3 admitted 3 zones 0
-"#,
-    ),
-    (
-        "[[{",
-        r#"[[{"batch":[]},{"#,
-        r#"report 1
-lanes 1
-entries 4
-1 admit lane 1 step 1 met
-2 publish lane 1 step 2
-3 admit lane 1 step 3 met
-4 end lane 1
-lane 1 steps 3
-step 1 admitted 1 zones 0
-step 2 published 2
-step 3 admitted 3 zones 1
-zone 1 rows 3
-null 4 1
-"East" 15 2
-"West" 7 2
-"#,
-    ),
-    (
-        "[[{",
-        "[[],[{",
-        r#"report 1
-lanes 2
-entries 4
-1 end lane 1
-2 publish lane 2 step 1
-3 admit lane 2 step 2 met
-4 end lane 2
-lane 1 steps 0
-lane 2 steps 2
-step 1 published 2
-step 2 admitted 3 zones 1
-zone 1 rows 3
-null 4 1
-"East" 15 2
-"West" 7 2
-"#,
-    ),
-    (
-        r#"{"publish":"sales","how":"replace","file":"sales.csv"}"#,
-        r#"{"batch":[]}"#,
-        "report 1
-lanes 1
-entries 3
-1 admit lane 1 step 1 met
-2 admit lane 1 step 2 met
-3 end lane 1
-lane 1 steps 2
-step 1 admitted 1 zones 0
-step 2 admitted 2 zones 1
-zone 1 rows 0
-",
-    ),
-    (
-        r#"{"publish":"sales","how":"replace","file":"sales.csv"},"#,
-        "",
-        "report 1
-lanes 1
-entries 2
-1 admit lane 1 step 1 met
-2 end lane 1
-lane 1 steps 1
-step 1 admitted 1 zones 1
-zone 1 rows 0
-",
-    ),
-];
-
 // What stands in the script, and what in its place; it is then answered as the script.
 const SAME: [(&str, &str); 9] = [
     ("]}]]}", r#"]}]],"schedule":[]}"#),
     ("]}]]}", r#"]}]],"schedule":[1]}"#),
     ("]}]]}", r#"]}]],"literal":1,"clever":4096}"#),
     ("]}]]}", r#"]}]],"faults":[{"lane":1,"dials":[]}]}"#),
+    ("]}]]}", r#"]}]],"faults":[{"lane":1,"links":[0]}]}"#),
     (r#""form":1"#, r#""form":2"#),
     (
         r#""extracts":["#,
@@ -489,11 +231,10 @@ const SAME: [(&str, &str); 9] = [
     ),
     (r#""replace""#, r#""append""#),
     (r#""by""#, r#""order":[],"filters":[],"by""#),
-    (r#""by""#, r#""top":3,"by""#),
 ];
 
 // What stands in the script, what in its place, and the status and the line with which that is refused.
-const REFUSED: [(&str, &str, u8, &str); 14] = [
+const REFUSED: [(&str, &str, u8, &str); 12] = [
     ("]}]]}", "]}", 4, "dashboards: row.json: not json"),
     (
         "]}]]}",
@@ -560,18 +301,6 @@ const REFUSED: [(&str, &str, u8, &str); 14] = [
         r#""form":2,"clever":4194305"#,
         7,
         "dashboards: limit capacity 4194305",
-    ),
-    (
-        "]}]]}",
-        r#"]}]],"faults":[{"lane":1,"dials":[1]}]}"#,
-        8,
-        "dashboards: row.json: not built",
-    ),
-    (
-        "]}]]}",
-        r#"]}]],"faults":[{"lane":1,"links":[0]}]}"#,
-        8,
-        "dashboards: row.json: not built",
     ),
 ];
 
@@ -643,10 +372,18 @@ pub(crate) fn add(
 }
 
 /// A script `row.json` and a file `sales.csv`.
-pub(crate) fn both(rt: &impl Abort, alloc: Global, script: &str, sales: &str) -> NamedFiles {
+fn both(rt: &impl Abort, alloc: Global, script: &str, sales: &str) -> NamedFiles {
     let mut files = NamedFiles::new(alloc);
     add(rt, alloc, &mut files, b"row.json", script.as_bytes());
     add(rt, alloc, &mut files, b"sales.csv", sales.as_bytes());
+    files
+}
+
+/// A script, its file, and the files that other scripts publish.
+pub(crate) fn all_files(rt: &impl Abort, alloc: Global, script: &str) -> NamedFiles {
+    let mut files = both(rt, alloc, script, SALES);
+    add(rt, alloc, &mut files, b"next.csv", NEXT_SALES.as_bytes());
+    add(rt, alloc, &mut files, b"more.csv", MORE_SALES.as_bytes());
     files
 }
 
@@ -656,7 +393,7 @@ fn changed(rt: &impl Abort, alloc: Global, old: &str, new: &str) -> String {
 }
 
 /// So many copies of a text, each with its number for the mark.
-fn copies(rt: &impl Abort, alloc: Global, text: &str, count: u32) -> String {
+pub(crate) fn copies(rt: &impl Abort, alloc: Global, text: &str, count: u32) -> String {
     let mut all = String::new(alloc);
     for place in 0..count {
         let number = format!(in alloc; "{}", place + 1).ok().expect(rt, "memory");
@@ -688,14 +425,20 @@ fn with_filters(rt: &impl Abort, alloc: Global, count: u32) -> String {
 }
 
 /// A fault has this status, and is told by this line.
-fn check_told(rt: &impl Abort, alloc: Global, fault: &Fault, status: u8, line: &str) {
+pub(crate) fn check_told(rt: &impl Abort, alloc: Global, fault: &Fault, status: u8, line: &str) {
     assert_eq!(rt; fault.status(), status, "{line}");
     let told = tell(alloc, fault).ok().expect(rt, "memory");
     assert_eq!(rt; told.bytes(), line.as_bytes(), "{line}");
 }
 
 /// The run didn't begin, with this status and line.
-fn check_refused(rt: &impl Abort, alloc: Global, outcome: &Outcome, status: u8, line: &str) {
+fn check_refused<L: Link, D: Dialer<L = L>>(
+    rt: &impl Abort,
+    alloc: Global,
+    outcome: &Outcome<L, D>,
+    status: u8,
+    line: &str,
+) {
     let fault = outcome.told.as_ref().expect(rt, "a fault");
     check_told(rt, alloc, fault, status, line);
     assert_eq!(rt; outcome.status, status, "{line}");
@@ -703,36 +446,76 @@ fn check_refused(rt: &impl Abort, alloc: Global, outcome: &Outcome, status: u8, 
     assert_eq!(rt; outcome.journal.len(), 0, "{line}");
     assert_eq!(rt; outcome.results.len(), 0, "{line}");
     assert_eq!(rt; outcome.shown.len(), 0, "{line}");
+    assert_eq!(rt; outcome.idle.len(), 0, "{line}");
+    assert_eq!(rt; outcome.wrecks.len(), 0, "{line}");
+    assert_eq!(rt; outcome.dialers.len(), 0, "{line}");
 }
 
-/// The report is written, from the number of zones on with this text, and with this status.
-fn check_report(rt: &impl Abort, alloc: Global, script: &str, sales: &str, status: u8, rest: &str) {
+/// The number of entries of a batch whose flights land, and the lines of its flights.
+fn flights(rt: &impl Abort, alloc: Global, landed: [&str; 2]) -> (&'static str, String) {
+    let [first, second] = landed;
+    let mut lines = String::new(alloc);
+    if first.is_empty() {
+        return ("3", lines);
+    }
+    let one = format!(in alloc;
+        "3 lease lane 1 flight 1 link 1 fresh\n4 give lane 1 flight 1 link 1 ran runs 1 calls 2\n5 land lane 1 flight 1 cells {first}\n"
+    ).ok()
+        .expect(rt, "memory");
+    assert!(rt; lines.push_str(one.as_str()).is_ok());
+    if second.is_empty() {
+        return ("6", lines);
+    }
+    let two = format!(in alloc;
+        "6 lease lane 1 flight 2 link 1 idle\n7 give lane 1 flight 2 link 1 ran runs 2 calls 3\n8 land lane 1 flight 2 cells {second}\n"
+    ).ok()
+        .expect(rt, "memory");
+    assert!(rt; lines.push_str(two.as_str()).is_ok());
+    ("9", lines)
+}
+
+/// The report of a lane that publishes and asks once: how many entries there are, what the batch met, the lines between the
+/// admission and the end, and the text from the number of zones on.
+pub(crate) fn report_of(
+    rt: &impl Abort,
+    alloc: Global,
+    entries: &str,
+    met: &str,
+    lines: &str,
+    rest: &str,
+) -> String {
+    format!(in alloc;
+        "report 1\nlanes 1\nentries {entries}\n1 publish lane 1 step 1\n2 admit lane 1 step 2 met{met}\n{lines}{entries} end lane 1\nlane 1 steps 2\nstep 1 published 1\nstep 2 admitted 2 zones {rest}"
+    ).ok()
+        .expect(rt, "memory")
+}
+
+/// What a script comes to over a file: its status, what its batch met and how its flights land, and the text from the number of
+/// zones on.
+#[derive(Clone, Copy)]
+struct Want<'a> {
+    status: u8,
+    flown: Flown,
+    rest: &'a str,
+}
+
+/// The report of a script of one batch is written so.
+fn check_report(rt: &impl Abort, alloc: Global, script: &str, sales: &str, want: &Want<'_>) {
     let mut folder = SureFolder::new(both(rt, alloc, script, sales));
     let mut sink = SureSink::new(alloc);
     let given = words(rt, alloc, &["rehearse", "row.json"]);
-    let outcome = rehearse(alloc, &given, &mut folder, &mut sink);
-    let report = format!(in alloc; "{BEGUN}{rest}").ok().expect(rt, "memory");
+    let outcome = rehearse(alloc, &given, &mut folder, &mut sink, &mut InOffice::new());
+    let (met, landed) = want.flown;
+    let (entries, lines) = flights(rt, alloc, landed);
+    let report = report_of(rt, alloc, entries, met, lines.as_str(), want.rest);
     assert_eq!(rt; sink.bytes(), report.as_bytes(), "{script}");
-    assert_eq!(rt; outcome.status, status, "{script}");
+    assert_eq!(rt; outcome.status, want.status, "{script}");
     assert!(rt; outcome.told.is_none(), "{script}");
     assert!(rt; outcome.loaded.is_some(), "{script}");
-    assert_eq!(rt; outcome.journal.len(), 3, "{script}");
     assert_eq!(rt; outcome.results.len(), 1, "{script}");
-}
-
-/// The report of a script of sessions is this text, and the status this one.
-fn check_play(rt: &impl Abort, alloc: Global, script: &str, status: u8, report: &str) {
-    let mut files = both(rt, alloc, script, SALES);
-    add(rt, alloc, &mut files, b"next.csv", NEXT_SALES.as_bytes());
-    add(rt, alloc, &mut files, b"more.csv", MORE_SALES.as_bytes());
-    let mut folder = SureFolder::new(files);
-    let mut sink = SureSink::new(alloc);
-    let given = words(rt, alloc, &["rehearse", "row.json"]);
-    let outcome = rehearse(alloc, &given, &mut folder, &mut sink);
-    assert_eq!(rt; sink.bytes(), report.as_bytes(), "{script}");
-    assert_eq!(rt; outcome.status, status, "{script}");
-    assert!(rt; outcome.told.is_none(), "{script}");
-    assert!(rt; outcome.loaded.is_some(), "{script}");
+    assert_eq!(rt; outcome.shown.len(), 1, "{script}");
+    assert_eq!(rt; outcome.wrecks.len(), 0, "{script}");
+    assert_eq!(rt; outcome.dialers.len(), 1, "{script}");
 }
 
 /// The script is refused, with this status and line.
@@ -745,7 +528,8 @@ fn check_script(rt: &impl Abort, alloc: Global, script: &str, status: u8, line: 
 fn check_usage(rt: &impl Abort, alloc: Global, given: &[&str]) {
     let mut folder = SureFolder::new(both(rt, alloc, SCRIPT, SALES));
     let mut sink = SureSink::new(alloc);
-    let outcome = rehearse(alloc, &words(rt, alloc, given), &mut folder, &mut sink);
+    let given = words(rt, alloc, given);
+    let outcome = rehearse(alloc, &given, &mut folder, &mut sink, &mut InOffice::new());
     check_refused(rt, alloc, &outcome, 2, "dashboards: usage");
     assert!(rt; sink.bytes().is_empty());
 }
@@ -754,7 +538,7 @@ fn check_usage(rt: &impl Abort, alloc: Global, given: &[&str]) {
 fn check_files<F: Folder>(rt: &impl Abort, alloc: Global, folder: &mut F, status: u8, line: &str) {
     let mut sink = SureSink::new(alloc);
     let given = words(rt, alloc, &["rehearse", "row.json"]);
-    let outcome = rehearse(alloc, &given, folder, &mut sink);
+    let outcome = rehearse(alloc, &given, folder, &mut sink, &mut InOffice::new());
     check_refused(rt, alloc, &outcome, status, line);
     assert!(rt; sink.bytes().is_empty(), "{line}");
 }
@@ -763,7 +547,7 @@ fn check_files<F: Folder>(rt: &impl Abort, alloc: Global, folder: &mut F, status
 fn check_unwritten(rt: &impl Abort, alloc: Global, sink: &mut MemSink, want: &[u8]) {
     let mut folder = SureFolder::new(both(rt, alloc, SCRIPT, SALES));
     let given = words(rt, alloc, &["rehearse", "row.json"]);
-    let outcome = rehearse(alloc, &given, &mut folder, sink);
+    let outcome = rehearse(alloc, &given, &mut folder, sink, &mut InOffice::new());
     let fault = outcome.told.as_ref().expect(rt, "a fault");
     check_told(rt, alloc, fault, 5, "dashboards: cannot write");
     assert_eq!(rt; outcome.status, 5);
@@ -773,21 +557,14 @@ fn check_unwritten(rt: &impl Abort, alloc: Global, sink: &mut MemSink, want: &[u
 #[test]
 fn runs_are_reported(rt: HostRuntime) {
     let alloc = rt.alloc();
-    for (zones, sales, status, rest) in RUNS {
+    for (zones, sales, status, flown, rest) in RUNS {
         let script = changed(&rt, alloc, ZONES, zones);
-        check_report(&rt, alloc, script.as_str(), sales, status, rest);
-    }
-}
-
-#[test]
-fn sessions_are_reported(rt: HostRuntime) {
-    let alloc = rt.alloc();
-    for (script, status, report) in PLAYS {
-        check_play(&rt, alloc, script, status, report);
-    }
-    for (old, new, report) in LONGER {
-        let script = changed(&rt, alloc, old, new);
-        check_play(&rt, alloc, script.as_str(), 0, report);
+        let want = Want {
+            status,
+            flown,
+            rest,
+        };
+        check_report(&rt, alloc, script.as_str(), sales, &want);
     }
 }
 
@@ -799,20 +576,28 @@ fn zones_and_filters_are_counted(rt: HostRuntime) {
         .ok()
         .expect(&rt, "memory");
     let most = with_zones(&rt, alloc, 63);
-    check_report(&rt, alloc, most.as_str(), SALES, 0, rest.as_str());
+    let all = Want {
+        status: 0,
+        flown: NINE_CELLS,
+        rest: rest.as_str(),
+    };
+    check_report(&rt, alloc, most.as_str(), SALES, &all);
     let more = with_zones(&rt, alloc, 64);
     check_script(&rt, alloc, more.as_str(), 7, "dashboards: limit zones 65");
     let long = with_filters(&rt, alloc, 15);
-    check_report(&rt, alloc, long.as_str(), SALES, 0, ANSWERED);
+    let answered = Want {
+        status: 0,
+        flown: NINE_CELLS,
+        rest: ANSWERED,
+    };
+    check_report(&rt, alloc, long.as_str(), SALES, &answered);
     let longer = with_filters(&rt, alloc, 16);
-    check_report(
-        &rt,
-        alloc,
-        longer.as_str(),
-        SALES,
-        1,
-        "1\nzone 1 invalid long\n",
-    );
+    let refused = Want {
+        status: 1,
+        flown: NOTHING,
+        rest: "1\nzone 1 invalid long\n",
+    };
+    check_report(&rt, alloc, longer.as_str(), SALES, &refused);
 }
 
 #[test]
@@ -821,15 +606,12 @@ fn report_is_written(rt: HostRuntime) {
     let mut folder = MemFolder::new(both(&rt, alloc, SCRIPT, SALES), Numbers64::new(alloc));
     let mut sink = MemSink::short(alloc, Numbers64::new(alloc), 1);
     let given = words(&rt, alloc, &["rehearse", "row.json"]);
-    let outcome = rehearse(alloc, &given, &mut folder, &mut sink);
-    let report = format!(in alloc; "{BEGUN}{ANSWERED}")
-        .ok()
-        .expect(&rt, "memory");
-    assert_eq!(rt; sink.bytes(), report.as_bytes());
+    let outcome = rehearse(alloc, &given, &mut folder, &mut sink, &mut InOffice::new());
+    assert_eq!(rt; sink.bytes(), REPORT.as_bytes());
     assert_eq!(rt; outcome.status, 0);
     assert!(rt; outcome.told.is_none());
     assert!(rt; outcome.loaded.is_some());
-    assert_eq!(rt; outcome.journal.len(), 3);
+    assert_eq!(rt; outcome.journal.len(), 6);
     assert_eq!(rt; outcome.results.len(), 1);
 }
 
@@ -859,7 +641,14 @@ fn files_are_unread(rt: HostRuntime) {
     add(&rt, alloc, &mut script, b"row.json", SCRIPT.as_bytes());
     let mut alone = MemFolder::new(script, Numbers64::new(alloc));
     check_files(&rt, alloc, &mut alone, 3, sales_unread);
-    let mut without = MemFolder::new(both(&rt, alloc, SESSIONS, SALES), Numbers64::new(alloc));
+    let two = changed(
+        &rt,
+        alloc,
+        "]}]]}",
+        r#"]},{"publish":"sales","how":"replace","file":"next.csv"}]]}"#,
+    );
+    let files = both(&rt, alloc, two.as_str(), SALES);
+    let mut without = MemFolder::new(files, Numbers64::new(alloc));
     check_files(
         &rt,
         alloc,
@@ -872,9 +661,14 @@ fn files_are_unread(rt: HostRuntime) {
 #[test]
 fn scripts_are_refused(rt: HostRuntime) {
     let alloc = rt.alloc();
+    let answered = Want {
+        status: 0,
+        flown: NINE_CELLS,
+        rest: ANSWERED,
+    };
     for (old, new) in SAME {
         let script = changed(&rt, alloc, old, new);
-        check_report(&rt, alloc, script.as_str(), SALES, 0, ANSWERED);
+        check_report(&rt, alloc, script.as_str(), SALES, &answered);
     }
     for (old, new, status, line) in REFUSED {
         let script = changed(&rt, alloc, old, new);

@@ -8,7 +8,7 @@ use Rattle.dq_base.specs.declared.query.Query.{Query}
 use Rattle.dq_graph.proofs.Sources.{sources_right}
 use Rattle.dq_graph.specs.Splits.{covered_by}
 use Rattle.dq_graph.specs.declared.prepared.Prepared.{Prepared}
-use Rattle.dq_journal.specs.Right.{AreRefused}
+use Rattle.dq_journal.specs.Steps.{AreRefused}
 use Rattle.dq_journal.specs.declared.result.ZoneResult.{ZoneResult}
 use Rattle.dq_machine.specs.Owning.{fate, valid_places}
 use Rattle.dq_machine.specs.Preparing.{canons_of}

@@ -4,7 +4,7 @@ use Rattle.std.proofs.lemmas.List.{take_more}
 use Rattle.dq_base.specs.Headings.{Heading}
 use Rattle.dq_base.specs.Validity.{invalid_by}
 use Rattle.dq_base.specs.declared.query.Query.{Query}
-use Rattle.dq_journal.specs.Right.{AreRefused, IsRefused}
+use Rattle.dq_journal.specs.Steps.{AreRefused, IsRefused}
 use Rattle.dq_journal.specs.declared.result.ZoneResult.{ZoneResult}
 
 AreRefused-push : (schemas : List Heading) (qs : List Query) (zs : List ZoneResult) (q : Query) (z : ZoneResult) → AreRefused schemas qs zs → IsRefused (invalid_by schemas q) z → AreRefused schemas (qs ++ q ∷ []) (zs ++ z ∷ [])

@@ -6,7 +6,7 @@ use Rattle.dq_base.specs.Headings.{Heading}
 use Rattle.dq_base.specs.Validity.{invalid_by}
 use Rattle.dq_base.specs.declared.invalid.Invalid.{Invalid}
 use Rattle.dq_base.specs.declared.query.Query.{Query}
-use Rattle.dq_journal.specs.Right.{AreRefused, IsRefused}
+use Rattle.dq_journal.specs.Steps.{AreRefused, IsRefused}
 use Rattle.dq_journal.specs.declared.result.ZoneResult.{ZoneResult}
 use Rattle.dq_journal.specs.declared.result.ZoneResult.TheVariants as zone
 use Rattle.dq_machine.specs.Owning.{Origin, no_origin, over_zones, valid_places}

@@ -11,7 +11,7 @@ use Rattle.dq_base.specs.declared.canon.Role.TheVariants.{Remote, Local}
 use Rattle.dq_base.specs.declared.cell.Cell.{Cell}
 use Rattle.dq_base.specs.declared.invalid.Invalid.{Invalid}
 use Rattle.dq_base.specs.declared.query.Query.{Query}
-use Rattle.dq_journal.specs.Right.{AreRefused}
+use Rattle.dq_journal.specs.Steps.{AreRefused}
 use Rattle.dq_journal.specs.Standing.{Rows}
 use Rattle.dq_journal.specs.declared.entry.Entry.{Entry}
 use Rattle.dq_journal.specs.declared.result.ZoneResult.{ZoneResult}

@@ -1,7 +1,7 @@
 ghost use Rattle.std.specs.Prelude.{◌≡◌, ℕ, ◌+◌, ◌<◌, ◌≤◌, ◌^◌, length, slice_get, Some, List as ListOf};
 ghost use Rattle.dq_base.specs.declared.canon.Role.TheVariants as role_of;
 ghost use Rattle.dq_base.specs.declared.query.Query.{Query as QueryOf};
-ghost use Rattle.dq_journal.specs.Right.{AreRefused};
+ghost use Rattle.dq_journal.specs.Steps.{AreRefused};
 ghost use Rattle.dq_journal.specs.declared.result.ZoneResult.{ZoneResult as ZoneResultOf};
 ghost use Rattle.dq_machine.specs.Right.{AreOutcomes};
 ghost use Rattle.dq_zones.specs.Answering.{AreFetched, AreRolled, BatchOf, FitFetches, FitPrepared, FitZones, IsBatch, IsFetched, IsLedFrom, origins_of, rank};

@@ -1,6 +1,6 @@
 ghost use Rattle.std.specs.Prelude.{List as ListOf, length};
 ghost use Rattle.dq_graph.specs.declared.prepared.Prepared.{Prepared as PreparedOf};
-ghost use Rattle.dq_journal.specs.Right.{AreRefused};
+ghost use Rattle.dq_journal.specs.Steps.{AreRefused};
 ghost use Rattle.dq_journal.specs.declared.result.ZoneResult.{ZoneResult as ZoneResultOf};
 ghost use Rattle.dq_zones.specs.Answering.{BatchOf, FitZones, IsBatch};
 ghost use Rattle.dq_zones.specs.declared.fetch.Fetch.{Fetch as FetchOf};

@@ -1,6 +1,6 @@
 ghost use Rattle.std.specs.Prelude.{IfOk};
 ghost use Rattle.dq_base.specs.Validity.{invalid_by};
-ghost use Rattle.dq_journal.specs.Right.{AreRefused, IsRefused};
+ghost use Rattle.dq_journal.specs.Steps.{AreRefused, IsRefused};
 
 use dq_base::{List, Memory, Query, Schemas};
 use dq_journal::{ZoneResult, ZoneResults};

@@ -4,8 +4,8 @@ use Rattle.std.specs.Option.{option_copied}
 use Rattle.std.specs.Cmp.Lexicographic.{pointwise}
 use Rattle.dq_base.specs.Scripts.{numbered, step_of}
 use Rattle.dq_journal.specs.Journals as journals
-use Rattle.dq_journal.specs.Right as named
-use Rattle.dq_journal.specs.Right.{done_from, entries_of, steps_named}
+use Rattle.dq_journal.specs.Steps as named
+use Rattle.dq_journal.specs.Steps.{done_from, entries_of, steps_named}
 use Rattle.dq_machine.specs.Order as specified
 use Rattle.dq_machine.specs.State.{none_left}
 use Rattle.dq_check.proofs.order.none_from.Given as goal

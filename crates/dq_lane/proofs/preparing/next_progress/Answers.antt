@@ -5,8 +5,8 @@ use Rattle.dq_base.specs.declared.script.Step.TheVariants.{Batch}
 use Rattle.dq_lane.proofs.Limits.{few_zones}
 use Rattle.dq_lane.proofs.preparing.next_progress.Goals as goal
 
-pub prepare-requires : goal.prepare-requires
-prepare-requires c =
-    let batch : step_of c.args.loaded.now.script.lanes c.args.lane c.args.step ≡ Some (Batch c.in-Some-Batch.queries) =
+pub new-requires : goal.new-requires
+new-requires g c =
+    let batch : step_of c.args.loaded.now.script.lanes c.args.lane c.args.step ≡ Some (Batch c.in-Some-Batch.zones) =
     rw (← c.script-script.ensures.script) (sym c.step_at.ensures ∙ ap option_copied c.in-Some-Batch.is ∙ ap Some c.in-Some-Batch.field-0-is) in
-    few_zones c.args.loaded.now c.args.lane c.args.step c.in-Some-Batch.queries c.script-script.ensures.loaded batch
+    few_zones c.args.loaded.now c.args.lane c.args.step c.in-Some-Batch.zones c.script-script.ensures.loaded batch

@@ -1,5 +1,5 @@
 use Rattle.std.proofs.Common.{take}
-use Rattle.dq_lane.specs.Kept.{AreRefusals}
+use Rattle.dq_lane.specs.Refusals.{AreRefusals}
 use Rattle.dq_lane.proofs.refusals.refused_steps.Given as goal
 
 abbrev pub invariant-loop-step : goal.invariant-loop-step

@@ -1,13 +1,13 @@
 use Rattle.std.proofs.Common.{◌+◌, ◌∷◌, [], arith, ◌≡◌, ◌∙◌, true, false, sym, subst}
 use Rattle.std.specs.List.{range_with_len}
 use Rattle.dq_rehearse.specs.Turns.{Turned}
-use Rattle.dq_rehearse.proofs.Turned.{AreOver-more, left_less, left_same, passed}
+use Rattle.dq_rehearse.proofs.Turned.{ArePassing-more, left_less, left_same, passed}
 use Rattle.dq_rehearse.proofs.Walked.{HavePlayed-more, round-more}
 use Rattle.dq_rehearse.proofs.playing.round.Goals as goal
 use Rattle.dq_rehearse.proofs.playing.round.Goals.{then-turn, else-turn}
 
 pub loop-place-preserved : goal.loop-place-preserved
-loop-place-preserved c =
+loop-place-preserved g c =
     let i = c.loop-place.invariant in
     let l = c.args.desk.now.loaded in
     let place = c.loop-place.place in
@@ -25,8 +25,8 @@ loop-place-preserved c =
         | then-turn w ↦ λ e. omega (arith, left_less l place old new before now c.turn.result turned w.if-turn.true, i.no_more)
         | else-turn w ↦ λ e. omega (arith, left, i.less (sym w.moved-is ∙ e))
       ];
-      over = elim c.if-turn.branch [
+      passing = elim c.if-turn.branch [
         | then-turn w ↦ λ e. let bad : true ≡ false = sym w.moved-is ∙ e in cc
-        | else-turn w ↦ λ e. AreOver-more l place old new before now (passed l place old new before now c.turn.result turned w.if-turn.false) (i.over (sym w.moved-is ∙ e))
+        | else-turn w ↦ λ e. ArePassing-more l place old new before now (passed l place old new before now c.turn.result turned w.if-turn.false) (i.passing (sym w.moved-is ∙ e))
       ];
     }

@@ -1,5 +1,5 @@
 use Rattle.std.proofs.Common.{take}
-use Rattle.dq_journal.specs.Right.{AreRefused}
+use Rattle.dq_journal.specs.Steps.{AreRefused}
 use Rattle.dq_zones.proofs.refusals.refused_zones.Given as goal
 
 abbrev pub invariant-loop-q : goal.invariant-loop-q

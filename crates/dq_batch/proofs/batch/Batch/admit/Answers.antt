@@ -1,7 +1,7 @@
 use Rattle.std.proofs.Common.{length, refl, ap, sym, ◌∙◌}
 use Rattle.dq_journal.specs.Journals.{JournalOf}
 use Rattle.dq_machine.specs.Machine.{after}
-use Rattle.dq_shared.specs.Admissions.{remotes_at}
+use Rattle.dq_desk.specs.Admissions.{remotes_at}
 use Rattle.dq_batch.proofs.Admitted.{first_as, first_begins}
 use Rattle.dq_batch.proofs.Begins.{held_long}
 use Rattle.dq_batch.proofs.Flies.{next_idle, next_told}

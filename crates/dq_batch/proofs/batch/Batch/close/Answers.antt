@@ -1,6 +1,6 @@
 use Rattle.std.proofs.Common.{◌≡◌, List, ◌++◌, true, sym, subst}
 use Rattle.dq_base.specs.Scripts.{step_of, zones_of}
-use Rattle.dq_journal.specs.Right.{AreRefused}
+use Rattle.dq_journal.specs.Steps.{AreRefused}
 use Rattle.dq_journal.specs.Standing.{stand}
 use Rattle.dq_journal.specs.declared.entry.Entry.{Entry}
 use Rattle.dq_machine.specs.Machine.{legal}
