@@ -15,5 +15,4 @@ pub mod Reasons
 pub mod Scripts
 pub mod Sessions
 pub mod Steps
-pub mod Wanted
 pub mod Zones

@@ -12,7 +12,6 @@
 //! The layer above may rely on this: `read` answers a script exactly where the bytes mean one, and then that one, and
 //! otherwise the first fault with its path or number. The script is within the limits, its numbers of extracts and lanes
 //! are in range, and its blends name pairs of neighbouring zones; that its zones are valid queries isn't said.
-//! `wants_no_fault` tells scripts in which nothing is wanted to fail.
 //!
 //! ```text
 //! let script = dq_script::read(alloc, bytes)?;
@@ -45,9 +44,7 @@ mod reads;
 mod sessions;
 mod step;
 mod strays;
-mod wanted;
 mod zone;
 
 pub use fault::ScriptFault;
 pub use reading::read;
-pub use wanted::wants_no_fault;

@@ -1,7 +1,7 @@
 use dq_base::{
     Bound, How, Limit, Measure, Memory, OrderKey, Predicate, Query, Script, Step, Test, Text,
 };
-use dq_script::{ScriptFault, read, wants_no_fault};
+use dq_script::{ScriptFault, read};
 use std::alloc::{AllocError, Global};
 use std::test::Fail;
 
@@ -849,7 +849,6 @@ fn reads_the_first_form(rt: HostRuntime) -> Result<(), Fail> {
     assert!(rt; script.schedule.as_slice() == [2, 1, 1].as_slice());
     assert!(rt; fails(&script, 0, &[], &[]));
     assert!(rt; fails(&script, 1, &[1], &[0, 3]));
-    assert!(rt; !wants_no_fault(&script));
     Ok(())
 }
 
@@ -891,7 +890,6 @@ fn reads_the_second_form(rt: HostRuntime) -> Result<(), Fail> {
     assert!(rt; script.blends.len() == 3);
     assert!(rt; is_session(&script, 0, 2));
     assert!(rt; is_session(&script, 1, 1));
-    assert!(rt; wants_no_fault(&script));
     Ok(())
 }
 
@@ -913,21 +911,5 @@ fn says_each_fault_in_words(rt: HostRuntime) -> Result<(), Fail> {
     assert_eq!(rt; said(alloc, extract)?.as_str(), "unknown extract");
     assert_eq!(rt; said(alloc, lane)?.as_str(), "unknown lane");
     assert_eq!(rt; said(alloc, ScriptFault::Memory)?.as_str(), "out of memory");
-    Ok(())
-}
-
-#[test]
-fn knows_wanted_faults(rt: HostRuntime) -> Result<(), Fail> {
-    let alloc = rt.alloc();
-    for (fault, none) in [
-        ("", true),
-        (",\"dials\":[1]", false),
-        (",\"links\":[0]", false),
-    ] {
-        let script = format!(in alloc;
-            "{{\"form\":1,\"extracts\":[],\"lanes\":[[]],\"faults\":[{{\"lane\":1{fault}}}]}}"
-        )?;
-        assert_eq!(rt; wants_no_fault(&read(alloc, script.as_bytes())?), none);
-    }
     Ok(())
 }
