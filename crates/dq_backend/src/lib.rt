@@ -26,6 +26,3 @@ pub use office::InOffice;
 pub use sending::links_and_dialers_may_be_sent;
 pub use short::{ShortDialer, ShortLink, ShortOffice};
 pub use sure::{SureDialer, SureLink, SureOffice};
-
-#[cfg(test)]
-mod tests;

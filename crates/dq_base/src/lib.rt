@@ -54,6 +54,3 @@ pub use script::{
 pub use sets::put;
 pub use spelling::{is_plain, put_labelled, put_number, put_signed, put_spelled};
 pub use value::{Value, Values};
-
-#[cfg(test)]
-mod tests;

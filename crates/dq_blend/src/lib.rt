@@ -14,6 +14,3 @@ mod exact;
 mod places;
 
 pub use blending::blend;
-
-#[cfg(test)]
-mod tests;

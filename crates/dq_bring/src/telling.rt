@@ -49,9 +49,9 @@ fn lease<L: Link>(
     losses: u32,
 ) -> Told<L>
     requires same { desk.old.loaded ≡ loaded.now }
-    requires bringing { IsBringing (record { runs = L.runs; calls = L.calls; mounts = L.mounts; planned = L.planned }) desk.old.loaded lane flight losses desk.old.journal (Phase.New) }
+    requires bringing { IsBringing (record { runs = L.runs; calls = L.calls; mounts = L.mounts; planned = L.planned }) desk.old.loaded lane flight losses desk.old.journal Phase.New }
     requires few { losses < 2 }
-    ensures told { IsTold (record { runs = L.runs; calls = L.calls; mounts = L.mounts; planned = L.planned }) desk.old.loaded lane flight (Phase.New) desk.old.journal desk.new.journal result }
+    ensures told { IsTold (record { runs = L.runs; calls = L.calls; mounts = L.mounts; planned = L.planned }) desk.old.loaded lane flight Phase.New desk.old.journal desk.new.journal result }
     ensures loaded { desk.new.loaded ≡ desk.old.loaded }
 {
     let leased = desk.lease(lane, flight);
@@ -64,12 +64,11 @@ fn lease<L: Link>(
 
 /// A flight that lost two links falls.
 fn fail<L: Link>(desk: &mut Desk<L>, lane: u32, flight: u64, losses: u32) -> Told<L>
-    requires bringing { IsBringing (record { runs = L.runs; calls = L.calls; mounts = L.mounts; planned = L.planned }) desk.old.loaded lane flight losses desk.old.journal (Phase.New) }
+    requires bringing { IsBringing (record { runs = L.runs; calls = L.calls; mounts = L.mounts; planned = L.planned }) desk.old.loaded lane flight losses desk.old.journal Phase.New }
     requires many { 2 ≤ losses }
-    ensures told { IsTold (record { runs = L.runs; calls = L.calls; mounts = L.mounts; planned = L.planned }) desk.old.loaded lane flight (Phase.New) desk.old.journal desk.new.journal result }
+    ensures told { IsTold (record { runs = L.runs; calls = L.calls; mounts = L.mounts; planned = L.planned }) desk.old.loaded lane flight Phase.New desk.old.journal desk.new.journal result }
     ensures loaded { desk.new.loaded ≡ desk.old.loaded }
 {
-    let _ = losses;
     desk.fall(lane, flight, Cause::BackEnd);
     Told::Over(Ending::BackEnd)
 }
@@ -121,22 +120,20 @@ fn lose<L: Link>(
 
 /// A flight for which memory was wanting in a dial falls.
 fn fall_undialled<L: Link>(desk: &mut Desk<L>, lane: u32, flight: u64, losses: u32) -> Told<L>
-    requires bringing { IsBringing (record { runs = L.runs; calls = L.calls; mounts = L.mounts; planned = L.planned }) desk.old.loaded lane flight losses desk.old.journal (Phase.Undialled) }
-    ensures told { IsTold (record { runs = L.runs; calls = L.calls; mounts = L.mounts; planned = L.planned }) desk.old.loaded lane flight (Phase.Undialled) desk.old.journal desk.new.journal result }
+    requires bringing { IsBringing (record { runs = L.runs; calls = L.calls; mounts = L.mounts; planned = L.planned }) desk.old.loaded lane flight losses desk.old.journal Phase.Undialled }
+    ensures told { IsTold (record { runs = L.runs; calls = L.calls; mounts = L.mounts; planned = L.planned }) desk.old.loaded lane flight Phase.Undialled desk.old.journal desk.new.journal result }
     ensures loaded { desk.new.loaded ≡ desk.old.loaded }
 {
-    let _ = losses;
     desk.fall(lane, flight, Cause::Memory);
     Told::Over(Ending::Memory)
 }
 
 /// A flight for which memory was wanting after its link was given back falls.
 fn fall_given<L: Link>(desk: &mut Desk<L>, lane: u32, flight: u64, losses: u32) -> Told<L>
-    requires bringing { IsBringing (record { runs = L.runs; calls = L.calls; mounts = L.mounts; planned = L.planned }) desk.old.loaded lane flight losses desk.old.journal (Phase.Falling) }
-    ensures told { IsTold (record { runs = L.runs; calls = L.calls; mounts = L.mounts; planned = L.planned }) desk.old.loaded lane flight (Phase.Falling) desk.old.journal desk.new.journal result }
+    requires bringing { IsBringing (record { runs = L.runs; calls = L.calls; mounts = L.mounts; planned = L.planned }) desk.old.loaded lane flight losses desk.old.journal Phase.Falling }
+    ensures told { IsTold (record { runs = L.runs; calls = L.calls; mounts = L.mounts; planned = L.planned }) desk.old.loaded lane flight Phase.Falling desk.old.journal desk.new.journal result }
     ensures loaded { desk.new.loaded ≡ desk.old.loaded }
 {
-    let _ = losses;
     desk.fall(lane, flight, Cause::Memory);
     Told::Over(Ending::Memory)
 }
@@ -147,7 +144,6 @@ fn land<L: Link>(desk: &mut Desk<L>, lane: u32, flight: u64, losses: u32, answer
     ensures told { IsTold (record { runs = L.runs; calls = L.calls; mounts = L.mounts; planned = L.planned }) desk.old.loaded lane flight (Phase.Landing answer) desk.old.journal desk.new.journal result }
     ensures loaded { desk.new.loaded ≡ desk.old.loaded }
 {
-    let _ = losses;
     let Answer {
         body,
         table,
@@ -169,9 +165,9 @@ pub(crate) fn tell<L: Link>(
     phase: Phase<L>,
 ) -> Told<L>
     requires same { desk.old.loaded ≡ loaded.now }
-    requires bringing { IsBringing (record { runs = L.runs; calls = L.calls; mounts = L.mounts; planned = L.planned }) desk.old.loaded lane flight losses desk.old.journal (phase) }
+    requires bringing { IsBringing (record { runs = L.runs; calls = L.calls; mounts = L.mounts; planned = L.planned }) desk.old.loaded lane flight losses desk.old.journal phase }
     requires worked { is_pending phase ≡ false }
-    ensures told { IsTold (record { runs = L.runs; calls = L.calls; mounts = L.mounts; planned = L.planned }) desk.old.loaded lane flight (phase) desk.old.journal desk.new.journal result }
+    ensures told { IsTold (record { runs = L.runs; calls = L.calls; mounts = L.mounts; planned = L.planned }) desk.old.loaded lane flight phase desk.old.journal desk.new.journal result }
     ensures loaded { desk.new.loaded ≡ desk.old.loaded }
 {
     match phase {

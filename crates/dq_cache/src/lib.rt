@@ -15,8 +15,6 @@ mod index;
 mod literal;
 mod shelf;
 mod stack;
-#[cfg(test)]
-mod tests;
 
 pub use clever::Clever;
 pub use entry::Found;

@@ -22,6 +22,3 @@ pub use laws::{
 };
 pub use sameness::same;
 pub use testing::within;
-
-#[cfg(test)]
-mod tests;

@@ -18,8 +18,6 @@ mod owners;
 mod records;
 mod segment;
 mod segments;
-#[cfg(test)]
-mod tests;
 
 pub use extract::Extract;
 pub use fault::LoadFault;

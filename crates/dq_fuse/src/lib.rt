@@ -19,6 +19,3 @@ mod union;
 pub use fusing::fuse;
 pub use group::{Group, Groups};
 pub use laws::{keys_are_valid, keys_cover_members};
-
-#[cfg(test)]
-mod tests;

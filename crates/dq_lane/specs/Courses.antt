@@ -116,6 +116,17 @@ module _ {L : Type 0} where
   abbrev pub CanEnd : Course L → Type 0
   CanEnd c = CanEndIn c.taken c.results c.progress
 
+  -- the batch is closed, nothing is under way, and the lane is free
+  pub record HasAnsweredIn (b : BatchOf) (taken : ℕ) (old new : List StepResult) (p : Progress L) : Type 0 where
+    pub result : StepResult
+    pub closed : HasClosedAs b result
+    pub is : new ≡ slice_set old (taken - 1) result
+    pub shut : p ≡ progress.Fresh
+    pub free : is_free (work_of (after b.loaded b.seen) b.lane) ≡ true
+
+  abbrev pub AnswersIn : ℕ → List StepResult → List StepResult → BatchOf → Progress L → Type 0
+  AnswersIn taken old new b p = MatchBool b.over (HasAnsweredIn b taken old new p) ((new ≡ old) × (p ≡ progress.Open b))
+
   -- the batch is closed, and the lane is free
   pub record HasAnswered (b : BatchOf) (c d : Course L) : Type 0 where
     pub result : StepResult

@@ -1,7 +1,7 @@
 ghost use Rattle.std.specs.Prelude.{◌≡◌, ◌+◌, ◌^◌, ◌<◌, take};
 ghost use Rattle.dq_bring.specs.Dials.{UndialledBy};
 ghost use Rattle.dq_batch.specs.Turns.{IsTurned};
-ghost use Rattle.dq_lane.specs.Courses.{CanEnd, CanGoOn, CanSettle, CanTurn, CanWorkIn, GoesOnAs, HasEnded, HasPrepared, HasWorked, StandsAt, settled};
+ghost use Rattle.dq_lane.specs.Courses.{AnswersIn, CanEnd, CanEndWith, CanGoOn, CanSettle, CanTurn, CanWorkIn, GoesOnAs, HasEnded, HasPrepared, HasWorked, StandsAt, settled};
 ghost use Rattle.dq_lane.specs.View.{closed_by, closed_of, is_untold};
 
 use crate::closing::close;
@@ -50,6 +50,23 @@ fn closed<L: Link>(taken: u32, progress: &Progress<L>) -> u64
         Progress::Open(_) => u64::from(taken).saturating_sub(1),
         Progress::Fresh | Progress::Ready | Progress::Prepared(_) => u64::from(taken),
     }
+}
+
+/// What is under way behind a turn of a batch: the batch, or nothing once it is over and its zones are answered.
+fn answered<L: Link>(
+    alloc: Global,
+    results: &mut LaneResults,
+    taken: u32,
+    batch: Batch<L>,
+) -> Progress<L>
+    requires { CanEndWith taken results.old batch }
+    ensures { AnswersIn taken results.old results.new batch result }
+{
+    if !batch.is_over() {
+        return Progress::Open(batch);
+    }
+    close(alloc, results.item_mut(u64::from(taken) - 1), batch);
+    Progress::Fresh
 }
 
 impl<L: Link> Course<L> {
@@ -112,15 +129,7 @@ impl<L: Link> Course<L> {
     {
         match replace(&mut self.progress, Progress::Fresh) {
             Progress::Open(batch) => {
-                if !batch.is_over() {
-                    self.progress = Progress::Open(batch);
-                    return;
-                }
-                close(
-                    alloc,
-                    self.results.item_mut(u64::from(self.taken) - 1),
-                    batch,
-                );
+                self.progress = answered(alloc, &mut self.results, self.taken, batch);
             }
             other => self.progress = other,
         }

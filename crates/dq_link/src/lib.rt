@@ -36,6 +36,3 @@ pub use pooled::{Lost, Pooled, Wreck};
 pub use ready::Readied;
 pub use run::Ran;
 pub use sending::links_may_be_sent;
-
-#[cfg(test)]
-mod tests;

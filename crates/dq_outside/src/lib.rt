@@ -26,6 +26,3 @@ pub use gate::{Gate, PassGate};
 pub use memory_folder::{MemFolder, SureFolder};
 pub use memory_sink::{MemSink, SureSink};
 pub use sink::{Sink, SinkFault, write_all};
-
-#[cfg(test)]
-mod tests;

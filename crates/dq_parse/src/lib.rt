@@ -25,6 +25,3 @@ mod words;
 pub use fault::ParseFault;
 pub use parsed::Parsed;
 pub use parsing::parse;
-
-#[cfg(test)]
-mod tests;

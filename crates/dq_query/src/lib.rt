@@ -16,6 +16,3 @@ mod validity;
 pub use form::{canonical, canonical_has_same_answer};
 pub use ordered::value_set;
 pub use validity::check;
-
-#[cfg(test)]
-mod tests;

@@ -15,6 +15,3 @@ mod writing;
 pub use law::report_tells_all;
 pub use sizes::are_well_formed;
 pub use writing::{WriteFault, write};
-
-#[cfg(test)]
-mod tests;

@@ -20,6 +20,3 @@ mod sources;
 
 pub use derivation::derive;
 pub use laws::sums_stay_within;
-
-#[cfg(test)]
-mod tests;

@@ -16,6 +16,3 @@ mod shielding;
 pub use laws::{filters_hide_the_rest, hidden_rows_change_nothing};
 pub use seeing::{Rows, visible};
 pub use shielding::shield;
-
-#[cfg(test)]
-mod tests;

@@ -30,6 +30,3 @@ pub use parsing::parse;
 pub use printing::{body, print};
 pub use sizes::{is_sized, is_sized_key};
 pub use statement::{Listed, SaidPredicate, SaidPredicates, SaidTest, Statement};
-
-#[cfg(test)]
-mod tests;

@@ -28,6 +28,3 @@ pub use fetch::{Fetch, Fetches};
 pub use laws::batches_fit;
 pub use preparing::prepare;
 pub use refusals::refused_zones;
-
-#[cfg(test)]
-mod tests;
