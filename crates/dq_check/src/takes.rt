@@ -43,7 +43,7 @@ fn push_started(started: &mut Vec<Option<u64>>, entry: &Entry, lane: u64) -> Res
 fn count_of(started: &Vec<Option<u64>>) -> u64
     ensures { result ≡ length started.now.items }
 {
-    started.len() as u64
+    started.as_slice().len() as u64
 }
 
 // Those from a count on, where there is one.
