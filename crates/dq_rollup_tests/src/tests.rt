@@ -48,15 +48,22 @@ struct Case<'a> {
     want: &'a str,
 }
 
+fn one_year(alloc: Global, year: i64) -> Result<Predicates, Memory>
+    ensures { IfOk result (λ filters. set_of predicate_cmp (map canonical_predicate filters) ≡ filters) }
+{
+    let test = Test::Among(List::from_vec(vec![in alloc; Value::Int(year)]?));
+    let mut filters = List::new(alloc);
+    filters.push(Predicate { column: YEAR, test })?;
+    Ok(filters)
+}
+
 fn filters(alloc: Global, year: Option<i64>) -> Result<Predicates, Memory>
     ensures { IfOk result (λ filters. set_of predicate_cmp (map canonical_predicate filters) ≡ filters) }
 {
-    let mut filters = List::new(alloc);
-    if let Some(year) = year {
-        let test = Test::Among(List::from_vec(vec![in alloc; Value::Int(year)]?));
-        filters.push(Predicate { column: YEAR, test })?;
+    match year {
+        Some(year) => one_year(alloc, year),
+        None => Ok(List::new(alloc)),
     }
-    Ok(filters)
 }
 
 fn dims(alloc: Global, items: &[(u32, u32)]) -> Result<Dims, Memory> {
