@@ -70,13 +70,20 @@ fn answered<L: Link>(
 }
 
 impl<L: Link> Course<L> {
+    /// Something else is under way; what was is let go.
+    fn go_to(&mut self, progress: Progress<L>)
+        ensures { self.new ≡ record self.old { progress = progress } }
+    {
+        self.progress = progress;
+    }
+
     /// The next step had its turn.
     fn advance(&mut self, progress: Progress<L>)
         requires { self.old.taken + 1 < 2 ^ 32 }
         ensures { self.new ≡ record self.old { taken = self.old.taken + 1; progress = progress } }
     {
         self.taken += 1;
-        self.progress = progress;
+        self.go_to(progress);
     }
 
     /// Takes in what a turn brought about.
@@ -93,7 +100,7 @@ impl<L: Link> Course<L> {
             Event::Admitted(batch) => self.advance(Progress::Open(batch)),
             Event::Ended => {
                 self.done = true;
-                self.progress = Progress::Ready;
+                self.go_to(Progress::Ready);
             }
         }
     }
@@ -129,9 +136,10 @@ impl<L: Link> Course<L> {
     {
         match replace(&mut self.progress, Progress::Fresh) {
             Progress::Open(batch) => {
-                self.progress = answered(alloc, &mut self.results, self.taken, batch);
+                let progress = answered(alloc, &mut self.results, self.taken, batch);
+                self.go_to(progress);
             }
-            other => self.progress = other,
+            other => self.go_to(other),
         }
     }
 
@@ -156,7 +164,8 @@ impl<L: Link> Course<L> {
         ensures { HasPrepared loaded.now lane self.old self.new }
     {
         if let Progress::Fresh = self.progress {
-            self.progress = next_progress(alloc, loaded, lane, self.taken + 1);
+            let progress = next_progress(alloc, loaded, lane, self.taken + 1);
+            self.go_to(progress);
         }
     }
 }
