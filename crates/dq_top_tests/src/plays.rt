@@ -83,16 +83,13 @@ const SHORT: [(&str, &str); 14] = [
 /// Seventeen years, of which the first is so many behind 2000.
 fn years(rt: &impl Abort, alloc: Global, first: u16) -> String {
     let mut all = String::new(alloc);
-    for place in 0..16 {
-        let year = format!(in alloc; "{},", 2000 + u32::from(first) + place)
+    for place in 0..17 {
+        let mark = if place == 0 { "" } else { "," };
+        let year = format!(in alloc; "{mark}{}", 2000 + u32::from(first) + place)
             .ok()
             .expect(rt, "memory");
         assert!(rt; all.push_str(year.as_str()).is_ok());
     }
-    let last = format!(in alloc; "{}", 2016 + u32::from(first))
-        .ok()
-        .expect(rt, "memory");
-    assert!(rt; all.push_str(last.as_str()).is_ok());
     all
 }
 

@@ -1,5 +1,6 @@
 // What runs write and tell, from the format's texts.
 use crate::checks::REPORT;
+use crate::plays::replaced;
 use dq_backend::InOffice;
 use dq_base::{Limit, List, Numbers64, Text, Texts};
 use dq_extract::LoadFault;
@@ -443,35 +444,44 @@ fn check_refused<L: Link, D: Dialer<L = L>>(
     check_told(rt, alloc, fault, status, line);
     assert_eq!(rt; outcome.status, status, "{line}");
     assert!(rt; outcome.loaded.is_none(), "{line}");
-    assert_eq!(rt; outcome.journal.len(), 0, "{line}");
-    assert_eq!(rt; outcome.results.len(), 0, "{line}");
-    assert_eq!(rt; outcome.shown.len(), 0, "{line}");
-    assert_eq!(rt; outcome.idle.len(), 0, "{line}");
-    assert_eq!(rt; outcome.wrecks.len(), 0, "{line}");
-    assert_eq!(rt; outcome.dialers.len(), 0, "{line}");
+    let made = [
+        outcome.journal.len(),
+        outcome.results.len(),
+        outcome.shown.len(),
+        outcome.idle.len(),
+        outcome.wrecks.len(),
+        outcome.dialers.len(),
+    ];
+    assert_eq!(rt; made, [0; 6], "{line}");
 }
+
+/// The lines of one flight and of two that land, by their cells.
+const ONE_LANDS: &str = "\
+3 lease lane 1 flight 1 link 1 fresh
+4 give lane 1 flight 1 link 1 ran runs 1 calls 2
+5 land lane 1 flight 1 cells <cells>
+";
+
+const TWO_LAND: &str = "\
+3 lease lane 1 flight 1 link 1 fresh
+4 give lane 1 flight 1 link 1 ran runs 1 calls 2
+5 land lane 1 flight 1 cells <cells>
+6 lease lane 1 flight 2 link 1 idle
+7 give lane 1 flight 2 link 1 ran runs 2 calls 3
+8 land lane 1 flight 2 cells <more>
+";
 
 /// The number of entries of a batch whose flights land, and the lines of its flights.
 fn flights(rt: &impl Abort, alloc: Global, landed: [&str; 2]) -> (&'static str, String) {
     let [first, second] = landed;
-    let mut lines = String::new(alloc);
     if first.is_empty() {
-        return ("3", lines);
+        return ("3", String::new(alloc));
     }
-    let one = format!(in alloc;
-        "3 lease lane 1 flight 1 link 1 fresh\n4 give lane 1 flight 1 link 1 ran runs 1 calls 2\n5 land lane 1 flight 1 cells {first}\n"
-    ).ok()
-        .expect(rt, "memory");
-    assert!(rt; lines.push_str(one.as_str()).is_ok());
     if second.is_empty() {
-        return ("6", lines);
+        return ("6", replaced(rt, alloc, ONE_LANDS, "<cells>", first));
     }
-    let two = format!(in alloc;
-        "6 lease lane 1 flight 2 link 1 idle\n7 give lane 1 flight 2 link 1 ran runs 2 calls 3\n8 land lane 1 flight 2 cells {second}\n"
-    ).ok()
-        .expect(rt, "memory");
-    assert!(rt; lines.push_str(two.as_str()).is_ok());
-    ("9", lines)
+    let lines = replaced(rt, alloc, TWO_LAND, "<cells>", first);
+    ("9", replaced(rt, alloc, lines.as_str(), "<more>", second))
 }
 
 /// The report of a lane that publishes and asks once: how many entries there are, what the batch met, the lines between the
