@@ -9,7 +9,7 @@ use dq_base::{List, Memory, Numbers};
 use std::alloc::Global;
 use std::marker::Model;
 
-/// A column of texts and nulls that is being read. Contracts see its values so far.
+/// A column of texts and nulls that grows row by row. Contracts see its values so far.
 ///
 /// A text has the number of its arrival until the column is finished.
 #[derive(Drop)]
@@ -71,7 +71,7 @@ impl TextColumnBuilder {
     }
 
     /// Puts a text at the end. It costs a look-up among the different texts, and only a new one is copied. An `Err` changes
-    /// nothing. More than 2^32 - 2 different texts are refused as want of memory.
+    /// nothing. More than 2^32 - 1 different texts are refused as want of memory.
     pub fn push(&mut self, alloc: Global, text: &str) -> Result<(), Memory>
         ensures ok { OnOk result (self.new ≡ self.old ++ Word text.now ∷ []) }
         ensures err { OnErr result (self.new ≡ self.old) }
@@ -89,7 +89,8 @@ impl TextColumnBuilder {
         Ok(())
     }
 
-    /// The column of the rows that were put. It costs a sort of the different texts, and one pass over the rows.
+    /// The column of the rows that were put. It costs a copy, a sort and a look-up of the different texts, and one pass over
+    /// the rows.
     pub fn finish(self, alloc: Global) -> Result<TextColumn, Memory>
         ensures { IfOk result (λ column. column ≡ self) }
     {
